@@ -4,7 +4,7 @@ use mathlib.Core.List.{List, [], _∷_, reverseAux}
 use Rattle.model.specs.World.{Setting, Event, start, world, played}
 use Rattle.model.specs.Cases.{PlayedIsWorld}
 
-played-on : (s : Setting) (es before : List Event) → played s (world s before) es ≡ world s (reverseAux es before)
+pub played-on : (s : Setting) (es before : List Event) → played s (world s before) es ≡ world s (reverseAux es before)
 unfolding world
 played-on s [] before = refl
 played-on s (e ∷ es) before = played-on s es (e ∷ before)

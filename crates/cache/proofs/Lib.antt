@@ -1,0 +1,3 @@
+-- Lemmas on a cache.
+pub mod Loops
+pub mod Rooms

@@ -1,0 +1,3 @@
+-- The definitions of a cache.
+pub mod Rules
+pub mod Answers

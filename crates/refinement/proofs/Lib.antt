@@ -1,0 +1,7 @@
+-- The proofs that the rules of a cache make the steps of the model, each file over the one before.
+pub mod Numbered
+pub mod Slots
+pub mod Links
+pub mod Asking
+pub mod Answering
+pub mod Running

@@ -1,0 +1,2 @@
+-- Lemmas on what a store's definitions say.
+pub mod Firsts

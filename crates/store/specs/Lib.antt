@@ -1,0 +1,2 @@
+-- The definitions of a store.
+pub mod Slots
