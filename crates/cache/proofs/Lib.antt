@@ -1,3 +1,4 @@
 -- Lemmas on a cache.
 pub mod Loops
 pub mod Rooms
+pub mod Decided

@@ -10,17 +10,11 @@ use Rattle.std.proofs.shelf.Ways.{tells}
 use Rattle.std.specs.declared.option.Option.{Option}
 use Rattle.std.specs.declared.option.Option.the-variants.{Some, None}
 use Rattle.store.specs.Slots.{Empty, first, found, holds, isFor, isEmpty}
+use Rattle.store.proofs.Firsts.{found-passes}
 use Rattle.cache.specs.declared.types.Exchange.{Exchange}
 use Rattle.cache.specs.declared.types.Words.{Words}
 use Rattle.cache.specs.Rules.{State}
 use Rattle.cache.specs.Answers.{Fits, keyAt, mayGo, isSpent, lastUse, older, oldestTo, orElse, roomFor, stored, withdrawn, agreed, full}
-
-found-within : {X : Type 0} (p : X → Bool) (xs : List X) (i : ℕ) → found p xs ≡ Some i → i < length xs
-found-within p xs i h = go (ltb (first p xs) (length xs)) refl h
-  where
-    go : (b : Bool) → ltb (first p xs) (length xs) ≡ b → cond b (Some (first p xs)) None ≡ Some i → i < length xs
-    go true e q = let r : first p xs ≡ i = cc in grind (arith, tells)
-    go false e q = absurd (let z : _≡_ {A = ℕ} 0 1 = cc in omega arith)
 
 older-within : (s : State) (b : Option ℕ) (n i : ℕ) → ((j : ℕ) → b ≡ Some j → j < n) → older s b n ≡ Some i → i < suc n
 older-within s None n i old h = go (mayGo s (getD (s .slots) n Empty)) h
@@ -45,8 +39,8 @@ either (Some j) b n f g i h = f i h
 
 pub room-within : (c : ℕ) (s : State) (i : ℕ) → roomFor c s ≡ Some i → i < length (s .slots)
 room-within c s i h =
-    either (found (holds (isFor (keyAt c s .path) (keyAt c s .language))) (s .slots)) _ (length (s .slots)) (λ j. found-within (holds (isFor (keyAt c s .path) (keyAt c s .language))) (s .slots) j)
-    (either (found isEmpty (s .slots)) _ (length (s .slots)) (λ j. found-within isEmpty (s .slots) j) (either (found (isSpent s) (s .slots)) _ (length (s .slots)) (λ j. found-within (isSpent s) (s .slots) j) (λ j. oldest-within (length (s .slots)) s j))) i h
+    either (found (holds (isFor (keyAt c s .path) (keyAt c s .language))) (s .slots)) _ (length (s .slots)) (λ j q. found-passes (holds (isFor (keyAt c s .path) (keyAt c s .language))) (s .slots) Empty j q .0)
+    (either (found isEmpty (s .slots)) _ (length (s .slots)) (λ j q. found-passes isEmpty (s .slots) Empty j q .0) (either (found (isSpent s) (s .slots)) _ (length (s .slots)) (λ j q. found-passes (isSpent s) (s .slots) Empty j q .0) (λ j. oldest-within (length (s .slots)) s j))) i h
 
 -- the two ways of a full answer
 pub full-private : (fits : Fits) (c : ℕ) (x : Exchange) (varies : Bool) (tag : Option (List ℕ)) (body : List ℕ) (w : Words) (s m : State) → w .private ≡ true → m ≡ agreed c varies s → withdrawn c tag m ≡ full fits c x varies tag body w s

@@ -3,6 +3,7 @@ ghost use lib.ListN.{length, getD};
 ghost use mathlib.Core.Path.{_≡_};
 ghost use Prim.Native.Nat.{_<_};
 ghost use Rattle.cache.specs.Answers.{pins, isPinned, mayGo, isSpent, lastUse, older, oldestTo, roomFor};
+ghost use Rattle.cache.specs.Decisions.{KeepsOthers, SparesPinned};
 ghost use Rattle.cache.specs.Rules.{stateOf};
 ghost use Rattle.store.specs.Slots.{Empty, found};
 use crate::rows::may_serve;
@@ -13,6 +14,16 @@ use store::store::Store;
 impl<S: Store> Cache<S> {
     // The place of an older answer to what a connection asks for, or the lowest that is free, or the best to give up.
     pub fn room_for(&self, c: usize) -> Option<usize>
+        requires ok { ⌜ S·Store .ok (now self .store) ⌝ }
+        requires within { ⌜ c < 8 ⌝ }
+        ensures value { λ r. ⌜ r ≡ roomFor c (stateOf (S·Store .slots) (S·Store .keys) (S·Store .held) (now (self .entry))) ⌝ }
+        ensures keeps { λ r. ⌜ KeepsOthers c (stateOf (S·Store .slots) (S·Store .keys) (S·Store .held) (now (self .entry))) r ⌝ }
+        ensures spares { λ r. ⌜ SparesPinned c (stateOf (S·Store .slots) (S·Store .keys) (S·Store .held) (now (self .entry))) r ⌝ }
+    {
+        self.choose(c)
+    }
+
+    fn choose(&self, c: usize) -> Option<usize>
         requires ok { ⌜ S·Store .ok (now self .store) ⌝ }
         requires within { ⌜ c < 8 ⌝ }
         ensures { λ r. ⌜ r ≡ roomFor c (stateOf (S·Store .slots) (S·Store .keys) (S·Store .held) (now (self .entry))) ⌝ }

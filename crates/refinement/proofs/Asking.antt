@@ -15,6 +15,7 @@ use Rattle.std.specs.declared.option.Option.the-variants.{Some, None}
 use Rattle.std.specs.Options.{isSome}
 use Rattle.store.specs.declared.types.Row.{Row}
 use Rattle.store.specs.Slots.{Response, Slot, Empty, Filled, Key, noKey, isFor, holds, withRow, rowOf, tagOf, bodyOf, first, found}
+use Rattle.store.proofs.Firsts.{first-passes, found-passes}
 use Rattle.cache.specs.declared.types.Link.{Link}
 use Rattle.cache.specs.declared.types.Link.the-variants.{Idle, Busy}
 use Rattle.cache.specs.declared.types.Looked.{Looked}
@@ -27,7 +28,7 @@ use Rattle.refinement.specs.Stands.{Bodies, keyLanguage, validatorOf, language
 use Rattle.refinement.specs.Steps.{tickEvents, methodOf, lookedEvents, lookedGives, StepSo, TickSo, AskSo, OriginEvent, changes, acts, declines, OriginSo}
 use Rattle.refinement.proofs.Numbered.{bad}
 use Rattle.refinement.proofs.Slots.{get-slot, set-slot, set-same, good-at, good-set, is-for, for-resource, for-key, may-serve}
-use Rattle.refinement.proofs.Links.{same-or-not, first-passes, shows-begun}
+use Rattle.refinement.proofs.Links.{same-or-not, shows-begun}
 
 pub tick-so : (st : State) → TickSo st
 tick-so st b s w h = go (canTick st)
@@ -160,17 +161,6 @@ begins-so b s w knows a own tag body st h hold = go (canForward knows (keyOf a t
 forwards-so : (b : Bodies) (s : world.Setting) (w : world.World) (knows : Knows) (a : Ask) (st : State) → Stands b s st w → AskTurn b s w a st (forwards knows a st)
 forwards-so b s w knows a st h = begins-so b s w knows a true (a .tag) [] st h (λ e. bad (cc))
 
--- a slot that was found
-found-slot : (s : State) (a : Ask) (i : ℕ) → found (holds (isFor (a .path) (a .language))) (s .slots) ≡ Some i → holds (isFor (a .path) (a .language)) (getD (s .slots) i Empty) ≡ true
-found-slot s a i h = go (ltb (first (holds (isFor (a .path) (a .language))) (s .slots)) (length (s .slots))) refl h
-  where
-    p : Slot → Bool
-    p = holds (isFor (a .path) (a .language))
-
-    go : (x : Bool) → ltb (first p (s .slots)) (length (s .slots)) ≡ x → cond x (Some (first p (s .slots))) None ≡ Some i → p (getD (s .slots) i Empty) ≡ true
-    go true e q = let r : first p (s .slots) ≡ i = cc in let l : first p (s .slots) < length (s .slots) = grind (arith, tells) in subst (λ (j : ℕ). p (getD (s .slots) j Empty) ≡ true) r (first-passes p (s .slots) Empty l)
-    go false e q = bad (cc)
-
 revalidates-so : (b : Bodies) (s : world.Setting) (w : world.World) (knows : Knows) (a : Ask) (st : State) (i : ℕ) (r : Response) → Stands b s st w → getD (st .slots) i Empty ≡ Filled r → isFor (a .path) (a .language) r ≡ true → isSome (tagOf (getD (st .slots) i Empty)) ≡ true → AskTurn b s w a st (revalidates knows a i st)
 revalidates-so b s w knows a st i r h at f some = begins-so b s w knows a (asksSame (a .tag) (getD (st .slots) i Empty)) (tagOf (getD (st .slots) i Empty)) (bodyOf (getD (st .slots) i Empty)) st h (λ e. rw at (held (r .tag) refl (sym (ap (λ (k : Slot). isSome (tagOf k)) at) ∙ some)))
   where
@@ -239,7 +229,7 @@ ask-so knows a st b s w h = go (isSome (a .write))
   where
     from : (o : Option ℕ) → found (holds (isFor (a .path) (a .language))) (st .slots) ≡ o → AskTurn b s w a st (readsFrom knows a o st)
     from None e = forwards-so b s w knows a st h
-    from (Some i) e = reads-at-so b s w knows a st i h (found-slot st a i e)
+    from (Some i) e = reads-at-so b s w knows a st i h (found-passes (holds (isFor (a .path) (a .language))) (st .slots) Empty i e .1)
 
     go : (x : Bool) → AskTurn b s w a st (cond x (forwards knows a st) (readsFrom knows a (found (holds (isFor (a .path) (a .language))) (st .slots)) st))
     go true = forwards-so b s w knows a st h

@@ -11,8 +11,7 @@ use lib.Seq.{getD-set-same, getD-set-other}
 use Rattle.std.proofs.shelf.Lists.{getD-past}
 use Rattle.std.proofs.shelf.Tests.{eqb-true, eqb-false}
 use Rattle.std.specs.shelf.Text.{sameBytes}
-use Rattle.store.specs.Slots.{Key, noKey, first}
-use Rattle.store.proofs.Firsts.{first-here, first-later, first-none}
+use Rattle.store.specs.Slots.{Key, noKey}
 use Rattle.cache.specs.declared.types.Exchange.{Exchange}
 use Rattle.cache.specs.declared.types.Link.{Link}
 use Rattle.cache.specs.declared.types.Link.the-variants.{Idle, Busy}
@@ -40,15 +39,6 @@ pub get-map : {A : Type 0} (f : A → A) (d : A) → f d ≡ d → (l : List A) 
 get-map f d e [] i = sym e
 get-map f d e (x ∷ l) zero = refl
 get-map f d e (x ∷ l) (suc i) = get-map f d e l i
-
--- the first that passes, passes
-pub first-passes : {X : Type 0} (p : X → Bool) (xs : List X) (d : X) → first p xs < length xs → p (getD xs (first p xs) d) ≡ true
-first-passes p [] d h = absurd (omega (arith, first-none p))
-first-passes p (x ∷ xs) d h = go (p x) refl (λ l. first-passes p xs d l)
-  where
-    go : (b : Bool) → p x ≡ b → (first p xs < length xs → p (getD xs (first p xs) d) ≡ true) → p (getD (x ∷ xs) (first p (x ∷ xs)) d) ≡ true
-    go true e ih = let q = first-here p x xs e in ap (λ (i : ℕ). p (getD (x ∷ xs) i d)) q ∙ e
-    go false e ih = let q = first-later p x xs e in let l : first p xs < length xs = omega (arith, q) in ap (λ (i : ℕ). p (getD (x ∷ xs) i d)) q ∙ ih l
 
 length-marked : (n : ℕ) (path : List ℕ) (keys : List Key) (links : List Link) → length (markedTo n path keys links) ≡ length links
 unfolding markedTo

@@ -1,10 +1,11 @@
 -- Laws of the first element that passes a test, as a loop uses them.
-use mathlib.Core.Path.{_≡_, refl, sym, _∙_, ap}
+use mathlib.Core.Path.{_≡_, refl, sym, _∙_, ap, subst}
 use mathlib.Core.Bool.{Bool, true, false, cond}
 use mathlib.Core.List.{List, [], _∷_}
 use Prim.Native.Nat.{ℕ, suc, _+_, _<_, _≤_}
 use native.Mathlib.Omega.{arith}
-use borrow.Author.Tests.{lt-ltb, le-ltb}
+use borrow.Author.Tests.{lt-ltb, le-ltb, ltb-true}
+use lib.Dec.{ltb}
 use lib.ListN.{length, getD, drop}
 use Rattle.std.specs.declared.option.Option.the-variants.{Some, None}
 use Rattle.std.proofs.shelf.Lists.{at-drop-more, at-drop-all}
@@ -51,3 +52,34 @@ any-here p xs i d l e inv = let h : i ≡ first p xs = sought-found p xs i d l e
 
 pub any-none : {X : Type 0} (p : X → Bool) (xs : List X) (i : ℕ) → length xs ≤ i → Sought p xs i → false ≡ any p xs
 any-none p xs i l inv = let h : i ≡ first p xs = sought-all p xs i l inv in sym (le-ltb (first p xs) (length xs) (omega arith))
+
+-- the first that passes, passes
+pub first-passes : {X : Type 0} (p : X → Bool) (xs : List X) (d : X) → first p xs < length xs → p (getD xs (first p xs) d) ≡ true
+first-passes p [] d h = absurd (omega (arith, first-none p))
+first-passes p (x ∷ xs) d h = go (p x) refl (λ l. first-passes p xs d l)
+  where
+    go : (b : Bool) → p x ≡ b → (first p xs < length xs → p (getD xs (first p xs) d) ≡ true) → p (getD (x ∷ xs) (first p (x ∷ xs)) d) ≡ true
+    go true e ih = let q = first-here p x xs e in ap (λ (i : ℕ). p (getD (x ∷ xs) i d)) q ∙ e
+    go false e ih =
+        let q = first-later p x xs e in
+        let l : first p xs < length xs = omega (arith, q) in
+        ap (λ (i : ℕ). p (getD (x ∷ xs) i d)) q ∙ ih l
+
+-- what is found is there, and passes
+pub found-passes : {X : Type 0} (p : X → Bool) (xs : List X) (d : X) (i : ℕ) → found p xs ≡ Some i → (i < length xs) × (p (getD xs i d) ≡ true)
+found-passes p xs d i h = go (ltb (first p xs) (length xs)) refl h
+  where
+    go : (b : Bool) → ltb (first p xs) (length xs) ≡ b → cond b (Some (first p xs)) None ≡ Some i → (i < length xs) × (p (getD xs i d) ≡ true)
+    go true e q =
+        let r : first p xs ≡ i = cc in
+        let l : first p xs < length xs = ltb-true (first p xs) (length xs) e in
+        subst (λ (j : ℕ). (j < length xs) × (p (getD xs j d) ≡ true)) r (l, first-passes p xs d l)
+    go false e q = absurd (let z : _≡_ {A = ℕ} 0 1 = cc in omega arith)
+
+-- and where none is found, none passes
+pub found-any : {X : Type 0} (p : X → Bool) (xs : List X) → found p xs ≡ None → any p xs ≡ false
+found-any p xs h = go (ltb (first p xs) (length xs)) refl h
+  where
+    go : (b : Bool) → ltb (first p xs) (length xs) ≡ b → cond b (Some (first p xs)) None ≡ None → b ≡ false
+    go true e q = absurd (let z : _≡_ {A = ℕ} 0 1 = cc in omega arith)
+    go false e q = refl
