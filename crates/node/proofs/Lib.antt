@@ -1,0 +1,2 @@
+-- Lemmas on a cache by value.
+pub mod Stepped

@@ -1,0 +1,2 @@
+-- What a cache by value stands for.
+pub mod Worlds
