@@ -22,7 +22,7 @@ impl Entry {
         }
     }
 
-    // Does it ask with the validator of this response, for its path and language?
+    /// Does it ask with the validator of this response, for its path and language?
     pub fn asks_for(&self, stored: &Stored) -> bool
         ensures { λ r. ⌜ r ≡ isAsked (keyOf (now (self .entry))) (responseOf (now (stored .entry))) ⌝ }
     {

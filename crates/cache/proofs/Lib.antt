@@ -2,3 +2,4 @@
 pub mod Loops
 pub mod Rooms
 pub mod Decided
+pub mod Places

@@ -7,6 +7,8 @@
 --                 place of an older answer to the same request
 --   SparesPinned  what an exchange under way asks with is never given up for another answer
 --   StoresIt      what may be stored is stored, just as it came
+--   Rivals        two stored responses could serve one request: they are of one path and, if both vary, one language
+--   OnePlace      there is one place for a path and language
 --
 -- Assumes nothing.
 use mathlib.Core.Path.{_≡_}
@@ -18,7 +20,7 @@ use Rattle.std.specs.declared.option.Option.{Option}
 use Rattle.std.specs.declared.option.Option.the-variants.{Some, None}
 use Rattle.std.specs.Options.{isSome}
 use Rattle.store.specs.declared.types.Row.{Row}
-use Rattle.store.specs.Slots.{Empty, Filled, isFor, holds, isEmpty, rowOf, found, any}
+use Rattle.store.specs.Slots.{Response, Slot, Empty, Filled, isFor, holds, isEmpty, rowOf, found, any}
 use Rattle.cache.specs.declared.types.Words.{Words}
 use Rattle.cache.specs.declared.types.Exchange.{Exchange}
 use Rattle.cache.specs.declared.types.Looked.{Looked}
@@ -54,3 +56,10 @@ abbrev pub StoresIt : Fits → ℕ → Exchange → Bool → Option (List ℕ) �
 StoresIt fits c x varies tag body w s None after = Unit {0}
 StoresIt fits c x varies tag body w s (Some i) after = (mayStore x w && fits tag body) ≡ true →
     getD (after .slots) i Empty ≡ Filled (record { path = keyAt c s .path; language = keyAt c s .language; tag = tag; body = body; row = rowFor (s .tick) x varies w })
+
+pub record Rivals (r q : Response) : Type 0 where
+  pub path : r .path ≡ q .path
+  pub language : r .row .varies ≡ true → q .row .varies ≡ true → r .language ≡ q .language
+
+abbrev pub OnePlace : List Slot → Type 0
+OnePlace ks = (i j : ℕ) (r q : Response) → getD ks i Empty ≡ Filled r → getD ks j Empty ≡ Filled q → Rivals r q → i ≡ j

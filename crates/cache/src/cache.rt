@@ -12,7 +12,7 @@ use store::store::Store;
 use store::types::Row;
 
 impl<S: Store> Cache<S> {
-    // At tick 0, with every connection idle, over what is in the store. Exchanges are numbered from 1.
+    /// At tick 0, with every connection idle, over what is in the store. Exchanges are numbered from 1.
     pub fn new(store: S) -> Cache<S>
         ensures state { λ r. ⌜ stateOf (S·Store .slots) (S·Store .keys) (S·Store .held) r ≡ started (S·Store .slots store) (S·Store .keys store) (S·Store .held store) ⌝ }
         ensures store { λ r. ⌜ r .store ≡ store ⌝ }
@@ -25,7 +25,7 @@ impl<S: Store> Cache<S> {
         }
     }
 
-    // A second passes. False if it can't be counted any more.
+    /// A second passes. False if it can't be counted any more.
     pub fn pass_tick(&mut self) -> bool
         ensures state { λ _. ⌜ stateOf (S·Store .slots) (S·Store .keys) (S·Store .held) (now (self .exit)) ≡ ticked (stateOf (S·Store .slots) (S·Store .keys) (S·Store .held) (now (self .entry))) ⌝ }
         ensures store { λ _. ⌜ now (self .exit) .store ≡ now (self .entry) .store ⌝ }
@@ -38,7 +38,7 @@ impl<S: Store> Cache<S> {
         true
     }
 
-    // Nothing is held any more for a connection whose answer was delivered; what is under way keeps what it holds.
+    /// Nothing is held any more for a connection whose answer was delivered; what is under way keeps what it holds.
     pub fn release(&mut self, c: usize)
         requires ok { ⌜ S·Store .ok (now self .store) ⌝ }
         ensures ok { λ _. ⌜ S·Store .ok (now (self .exit) .store) ⌝ }
@@ -49,7 +49,7 @@ impl<S: Store> Cache<S> {
         }
     }
 
-    // The body of what is stored at a place.
+    /// The body of what is stored at a place.
     pub fn body(&self, place: usize) -> &[u8]
         requires ok { ⌜ S·Store .ok (now self .store) ⌝ }
         ensures { λ r. ⌜ now r ≡ bodyOf (getD (S·Store .slots (now (self .entry) .store)) place Empty) ⌝ }
@@ -57,7 +57,7 @@ impl<S: Store> Cache<S> {
         self.store.body(place)
     }
 
-    // The body that is held for a connection.
+    /// The body that is held for a connection.
     pub fn held(&self, c: usize) -> &[u8]
         requires ok { ⌜ S·Store .ok (now self .store) ⌝ }
         requires within { ⌜ c < 8 ⌝ }
@@ -66,7 +66,7 @@ impl<S: Store> Cache<S> {
         self.store.held(c)
     }
 
-    // The numbers of what is stored at a place.
+    /// The numbers of what is stored at a place.
     pub fn row(&self, place: usize) -> Option<Row>
         requires ok { ⌜ S·Store .ok (now self .store) ⌝ }
         ensures { λ r. ⌜ r ≡ rowOf (getD (S·Store .slots (now (self .entry) .store)) place Empty) ⌝ }

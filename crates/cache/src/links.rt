@@ -17,7 +17,7 @@ impl Link {
         }
     }
 
-    // Is a read under way on it?
+    /// Is a read under way on it?
     pub fn is_reading(self) -> bool
         ensures { λ r. ⌜ r ≡ isReading self ⌝ }
     {
@@ -27,7 +27,7 @@ impl Link {
         }
     }
 
-    // The connection, with its exchange invalidated if `path_is_written`.
+    /// The connection, with its exchange invalidated if `path_is_written`.
     pub fn mark_if(self, path_is_written: bool) -> Link
         ensures { λ r. ⌜ r ≡ markIf «path_is_written» self ⌝ }
     {
@@ -47,7 +47,7 @@ impl Link {
     }
 }
 
-// The lowest connection that is idle, or their number.
+/// The lowest connection that is idle, or their number.
 pub fn free_link(links: &[Link]) -> usize
     ensures { λ r. ⌜ r ≡ first isIdle (now (links .entry)) ⌝ }
 {

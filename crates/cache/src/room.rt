@@ -12,7 +12,7 @@ use crate::types::Cache;
 use store::store::Store;
 
 impl<S: Store> Cache<S> {
-    // The place of an older answer to what a connection asks for, or the lowest that is free, or the best to give up.
+    /// The place of an older answer to what a connection asks for, or the lowest that is free, or the best to give up.
     pub fn room_for(&self, c: usize) -> Option<usize>
         requires ok { ⌜ S·Store .ok (now self .store) ⌝ }
         requires within { ⌜ c < 8 ⌝ }
@@ -40,7 +40,7 @@ impl<S: Store> Cache<S> {
         self.find_oldest()
     }
 
-    // The lowest place of what may no longer be served.
+    /// The lowest place of what may no longer be served.
     fn find_spent(&self) -> Option<usize>
         requires ok { ⌜ S·Store .ok (now self .store) ⌝ }
         ensures { λ r. ⌜ r ≡ found (isSpent (stateOf (S·Store .slots) (S·Store .keys) (S·Store .held) (now (self .entry)))) (S·Store .slots (now (self .entry) .store)) ⌝ }
@@ -55,7 +55,7 @@ impl<S: Store> Cache<S> {
         spent
     }
 
-    // The place of what was used longest ago, the lowest among equals.
+    /// The place of what was used longest ago, the lowest among equals.
     fn find_oldest(&self) -> Option<usize>
         requires ok { ⌜ S·Store .ok (now self .store) ⌝ }
         ensures { λ r. ⌜ r ≡ oldestTo (length (S·Store .slots (now (self .entry) .store))) (stateOf (S·Store .slots) (S·Store .keys) (S·Store .held) (now (self .entry))) ⌝ }
@@ -67,7 +67,7 @@ impl<S: Store> Cache<S> {
         best
     }
 
-    // May what is stored at a place no longer be served, and be given up?
+    /// May what is stored at a place no longer be served, and be given up?
     fn is_spent(&self, place: usize) -> bool
         requires ok { ⌜ S·Store .ok (now self .store) ⌝ }
         ensures { λ r. ⌜ r ≡ isSpent (stateOf (S·Store .slots) (S·Store .keys) (S·Store .held) (now (self .entry))) (getD (S·Store .slots (now (self .entry) .store)) place Empty) ⌝ }
@@ -78,7 +78,7 @@ impl<S: Store> Cache<S> {
         }
     }
 
-    // The better of two places to give up.
+    /// The better of two places to give up.
     fn older(&self, best: Option<usize>, place: usize) -> Option<usize>
         requires ok { ⌜ S·Store .ok (now self .store) ⌝ }
         ensures { λ r. ⌜ r ≡ older (stateOf (S·Store .slots) (S·Store .keys) (S·Store .held) (now (self .entry))) best place ⌝ }
@@ -118,7 +118,7 @@ impl<S: Store> Cache<S> {
         }
     }
 
-    // Does an exchange under way ask with the validator of what is stored at a place?
+    /// Does an exchange under way ask with the validator of what is stored at a place?
     fn is_pinned(&self, place: usize) -> bool
         requires ok { ⌜ S·Store .ok (now self .store) ⌝ }
         ensures { λ r. ⌜ r ≡ isPinned (stateOf (S·Store .slots) (S·Store .keys) (S·Store .held) (now (self .entry))) (getD (S·Store .slots (now (self .entry) .store)) place Empty) ⌝ }
@@ -130,7 +130,7 @@ impl<S: Store> Cache<S> {
         pinned
     }
 
-    // Does the exchange on this connection?
+    /// Does the exchange on this connection?
     fn pins(&self, c: usize, place: usize) -> bool
         requires ok { ⌜ S·Store .ok (now self .store) ⌝ }
         requires within { ⌜ c < 8 ⌝ }

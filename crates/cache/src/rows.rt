@@ -3,7 +3,7 @@ ghost use mathlib.Core.Path.{_≡_};
 ghost use Rattle.cache.specs.Rules.{mayServe};
 use store::types::Row;
 
-// May it be shown at this tick?
+/// May it be shown at this tick?
 pub fn may_serve(row: Row, tick: u64) -> bool
     ensures { λ r. ⌜ r ≡ mayServe tick row ⌝ }
 {

@@ -5,6 +5,7 @@
 --   heldAt        what is held for a connection
 --   Ticked, Asked, Answered, Lost   from one state to another: for every world that the first stands for, the second
 --                 stands for the stepped world, and what the world delivers is what the clients are given
+--   NodeKeeps     any run of calls of a node, from a new one on, is as promised
 --
 -- Assumes nothing.
 use mathlib.Core.Bool.{Bool, cond}
@@ -20,6 +21,7 @@ use Rattle.cache.specs.Answers.{Reply}
 use Rattle.model.specs.World as world
 use Rattle.refinement.specs.Stands.{Bodies, settingOf, Stands}
 use Rattle.refinement.specs.Steps.{StepSo, tickEvents, askEvents, askGives, answerEvents, answerGives, loseEvents, loseGives, HonestOn}
+use Rattle.refinement.specs.Runs.{Happening, Terms, Honest, Kept}
 use Rattle.node.specs.declared.types.Node.{Node}
 
 abbrev pub stateIn : Node → State
@@ -44,3 +46,11 @@ Answered c r st after = (b : Bodies) (varies : ℕ → Bool) (places : ℕ) (w :
 
 abbrev pub Lost : ℕ → State → State → Type 0
 Lost c st after = (b : Bodies) (s : world.Setting) (w : world.World) → Stands b s st w → StepSo b s after w (loseEvents c st) (loseGives c st)
+
+-- Any calls of a node, with an honest origin: what is given is as promised. The places are the node's 64, and where
+-- answers are stored, what is evicted and what is refused is the node's own choice.
+abbrev pub termsOf : Bodies → (ℕ → Bool) → Terms
+termsOf bodies varies = record { knows = isKnown; fits = isFitting; bodies = bodies; varies = varies; places = 64 }
+
+abbrev pub NodeKeeps : Type 0
+NodeKeeps = (bodies : Bodies) (varies : ℕ → Bool) (hs : List Happening) → Honest (termsOf bodies varies) hs → Kept (termsOf bodies varies) hs

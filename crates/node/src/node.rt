@@ -4,7 +4,7 @@ ghost use mathlib.Core.Path.{_≡_};
 ghost use Rattle.array_store.specs.Shorts.{isKnown, isFitting};
 ghost use Rattle.cache.specs.Answers.{replyOf, received, lost};
 ghost use Rattle.cache.specs.Rules.{askOf, canTick, ticked, requested};
-ghost use Rattle.node.specs.Worlds.{stateIn, begun, heldAt, Ticked, Asked, Answered, Lost};
+ghost use Rattle.node.specs.Worlds.{stateIn, begun, heldAt, Ticked, Asked, Answered, Lost, NodeKeeps};
 ghost use Rattle.store.specs.Slots.{Empty, rowOf, bodyOf};
 use crate::types::Node;
 use array_store::array::ArrayStoreStore;
@@ -18,16 +18,17 @@ use cache::types::Request;
 use store::types::Row;
 
 impl Node {
-    // At tick 0, with nothing stored and nothing under way.
+    /// At tick 0, with nothing stored and nothing under way.
     pub fn new() -> Node
-        ensures { λ r. ⌜ stateIn r ≡ begun ⌝ }
+        ensures state { λ r. ⌜ stateIn r ≡ begun ⌝ }
+        ensures promise { λ _. ⌜ NodeKeeps ⌝ }
     {
         Node {
             cache: Cache::new(ArrayStore::new()),
         }
     }
 
-    // A second passes. False if it can't be counted any more.
+    /// A second passes. False if it can't be counted any more.
     pub fn pass_tick(&mut self) -> bool
         ensures state { λ _. ⌜ stateIn (now (self .exit)) ≡ ticked (stateIn (now (self .entry))) ⌝ }
         ensures gives { λ r. ⌜ r ≡ canTick (stateIn (now (self .entry))) ⌝ }
@@ -36,7 +37,7 @@ impl Node {
         self.cache.pass_tick()
     }
 
-    // A client's request: served from the store, forwarded, or refused.
+    /// A client's request: served from the store, forwarded, or refused.
     pub fn request(&mut self, request: Request<'_>) -> Looked
         ensures state { λ _. ⌜ stateIn (now (self .exit)) ≡ requested isKnown (askOf (request .entry)) (stateIn (now (self .entry))) .state ⌝ }
         ensures gives { λ r. ⌜ r ≡ requested isKnown (askOf (request .entry)) (stateIn (now (self .entry))) .gives ⌝ }
@@ -45,7 +46,7 @@ impl Node {
         self.cache.request(request)
     }
 
-    // The answer to what is under way on a connection.
+    /// The answer to what is under way on a connection.
     pub fn receive(&mut self, c: usize, answer: Answer<'_>) -> Outcome
         ensures state { λ _. ⌜ stateIn (now (self .exit)) ≡ received isFitting c (replyOf (answer .entry)) (stateIn (now (self .entry))) .state ⌝ }
         ensures gives { λ r. ⌜ r ≡ received isFitting c (replyOf (answer .entry)) (stateIn (now (self .entry))) .gives ⌝ }
@@ -54,7 +55,7 @@ impl Node {
         self.cache.receive(c, answer)
     }
 
-    // A connection is lost, or closed for a fault in what came on it.
+    /// A connection is lost, or closed for a fault in what came on it.
     pub fn lose(&mut self, c: usize) -> Outcome
         ensures state { λ _. ⌜ stateIn (now (self .exit)) ≡ lost c (stateIn (now (self .entry))) .state ⌝ }
         ensures gives { λ r. ⌜ r ≡ lost c (stateIn (now (self .entry))) .gives ⌝ }
@@ -63,21 +64,21 @@ impl Node {
         self.cache.lose(c)
     }
 
-    // The body of what is stored at a place; empty where nothing is.
+    /// The body of what is stored at a place; empty where nothing is.
     pub fn body(&self, place: usize) -> &[u8]
         ensures { λ r. ⌜ now r ≡ bodyOf (getD (stateIn (now (self .entry)) .slots) place Empty) ⌝ }
     {
         self.cache.body(place)
     }
 
-    // The numbers of what is stored at a place.
+    /// The numbers of what is stored at a place.
     pub fn row(&self, place: usize) -> Option<Row>
         ensures { λ r. ⌜ r ≡ rowOf (getD (stateIn (now (self .entry)) .slots) place Empty) ⌝ }
     {
         self.cache.row(place)
     }
 
-    // The body that is held for a connection; empty where nothing is.
+    /// The body that is held for a connection; empty where nothing is.
     pub fn held(&self, c: usize) -> &[u8]
         ensures { λ r. ⌜ now r ≡ heldAt c (stateIn (now (self .entry))) ⌝ }
     {
@@ -88,7 +89,7 @@ impl Node {
         }
     }
 
-    // How often the clock went on.
+    /// How often the clock went on.
     pub fn tick(&self) -> u64
         ensures { λ r. ⌜ r ≡ stateIn (now (self .entry)) .tick ⌝ }
     {

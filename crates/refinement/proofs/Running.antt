@@ -3,21 +3,23 @@ use mathlib.Core.Path.{_≡_, refl, sym, _∙_, ap, subst}
 use mathlib.Core.Bool.{Bool, true, false, cond, _&&_}
 use mathlib.Core.List.{List, [], _∷_, _++_, map, reverseAux}
 use mathlib.Core.Logic.{inl, inr, ⊎-elim, _≢_}
-use Prim.Native.Nat.{ℕ, zero, suc}
+use Prim.Native.Nat.{ℕ, zero, suc, _+_}
 use lib.Dec.{ltb}
 use lib.ListN.{length, getD, set, replicate, length-set, length-replicate}
 use lib.Seq.{getD-set-other}
-use Rattle.store.specs.Slots.{Slot, Empty, Key, noKey}
+use Rattle.store.specs.Slots.{Response, Slot, Empty, Filled, Key, noKey}
 use Rattle.cache.specs.declared.types.Link.{Link}
 use Rattle.cache.specs.declared.types.Link.the-variants.{Idle, Busy}
-use Rattle.cache.specs.Rules.{State, isIdle, released}
+use Rattle.cache.specs.Rules.{State, canTick, ticked, isIdle, released}
+use Rattle.cache.specs.Decisions.{OnePlace}
+use Rattle.cache.proofs.Places.{requested-one, received-one, lost-one}
 use Rattle.model.specs.Exchanges as model
 use Rattle.model.specs.World as world
 use Rattle.model.proofs.Played.{played-on}
 use Rattle.promise.proofs.Promised.{promised}
 use Rattle.refinement.specs.Stands.{Bodies, slotOf, AllGood, Shows, Stands}
 use Rattle.refinement.specs.Steps.{StepSo, changes, acts, declines}
-use Rattle.refinement.specs.Runs.{Happening, Ticks, Asks, Answers, Loses, Releases, Changes, Acts, Declines, Run, Terms, settingIn, fresh, goes, run, HonestNow, Honest, Kept, CacheKeeps}
+use Rattle.refinement.specs.Runs.{Happening, Ticks, Asks, Answers, Loses, Releases, Changes, Acts, Declines, Run, Terms, settingIn, fresh, goes, run, HonestNow, Honest, Kept, CacheKeeps, CacheHasOnePlace}
 use Rattle.refinement.proofs.Numbered.{bad}
 use Rattle.refinement.proofs.Links.{same-or-not}
 use Rattle.refinement.proofs.Asking.{tick-so, origin-so, ask-so}
@@ -97,3 +99,33 @@ runs-hold t (Declines c reply ∷ hs) o = let h = runs-hold t hs (o .1) in step-
 
 pub cache-keeps : CacheKeeps
 cache-keeps t hs o = let h = runs-hold t hs o in record { stands = h .0; delivered = h .1; promise = promised (settingIn t) (run t hs .events) }
+
+-- one place for a path and language
+none-filled : (n i : ℕ) (r : Response) → getD (replicate n Empty) i Empty ≡ Filled r → ⊥
+none-filled n i r h = let e = get-replicate n i Empty in bad (cc)
+
+ticked-slots : (st : State) → ticked st .slots ≡ st .slots
+ticked-slots st = go (canTick st)
+  where
+    go : (x : Bool) → cond x (record { tick = st .tick + 1; next = st .next; links = st .links; slots = st .slots; keys = st .keys; held = st .held }) st .slots ≡ st .slots
+    go true = refl
+    go false = refl
+
+released-slots : (c : ℕ) (st : State) → released c st .slots ≡ st .slots
+released-slots c st = go (ltb c 8 && isIdle (getD (st .links) c Idle))
+  where
+    go : (x : Bool) → cond x (record { tick = st .tick; next = st .next; links = st .links; slots = st .slots; keys = st .keys; held = set (st .held) c [] }) st .slots ≡ st .slots
+    go true = refl
+    go false = refl
+
+pub cache-has-one-place : CacheHasOnePlace
+unfolding run
+cache-has-one-place t [] = λ i j r q hi hj c. absurd (none-filled (t .places) i r hi)
+cache-has-one-place t (Ticks ∷ hs) = subst OnePlace (sym (ticked-slots (run t hs .state))) (cache-has-one-place t hs)
+cache-has-one-place t (Asks a ∷ hs) = requested-one (t .knows) a (run t hs .state) (cache-has-one-place t hs)
+cache-has-one-place t (Answers c r ∷ hs) = received-one (t .fits) c r (run t hs .state) (cache-has-one-place t hs)
+cache-has-one-place t (Loses c ∷ hs) = lost-one c (run t hs .state) (cache-has-one-place t hs)
+cache-has-one-place t (Releases c ∷ hs) = subst OnePlace (sym (released-slots c (run t hs .state))) (cache-has-one-place t hs)
+cache-has-one-place t (Changes r l x ∷ hs) = cache-has-one-place t hs
+cache-has-one-place t (Acts c life private full reply ∷ hs) = cache-has-one-place t hs
+cache-has-one-place t (Declines c reply ∷ hs) = cache-has-one-place t hs

@@ -8,6 +8,7 @@
 --   run           the run of a list of happenings, the latest first. Where answers are stored and what is evicted is the
 --                 cache's own choice, by its rules
 --   Honest        an answer that comes on a connection and suits the request there is what the origin said to it
+--   CacheKeeps    every honest run is kept; CacheHasOnePlace: of every run
 --   Kept          the promise of the model, of all that the cache gave in this run
 --
 -- Assumes nothing.
@@ -19,6 +20,7 @@ use lib.ListN.{replicate}
 use Rattle.store.specs.Slots.{Empty, noKey}
 use Rattle.cache.specs.Rules.{State, Ask, Knows, started, ticked, released, requested}
 use Rattle.cache.specs.Answers.{Reply, Fits, received, lost}
+use Rattle.cache.specs.Decisions.{OnePlace}
 use Rattle.model.specs.World as world
 use Rattle.model.specs.Promise.{Promise}
 use Rattle.refinement.specs.Stands.{Bodies, settingOf, Stands}
@@ -92,3 +94,7 @@ pub record Kept (t : Terms) (hs : List Happening) : Type 0 where
 
 abbrev pub CacheKeeps : Type 0
 CacheKeeps = (t : Terms) (hs : List Happening) → Honest t hs → Kept t hs
+
+-- In every run, honest or not, there is one place for a path and language.
+abbrev pub CacheHasOnePlace : Type 0
+CacheHasOnePlace = (t : Terms) (hs : List Happening) → OnePlace (run t hs .state .slots)
