@@ -2,4 +2,3 @@
 pub mod Loops
 pub mod Rooms
 pub mod Decided
-pub mod Places

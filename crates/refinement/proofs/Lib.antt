@@ -4,4 +4,5 @@ pub mod Slots
 pub mod Links
 pub mod Asking
 pub mod Answering
+pub mod Places
 pub mod Running

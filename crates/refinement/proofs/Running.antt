@@ -12,7 +12,7 @@ use Rattle.cache.specs.declared.types.Link.{Link}
 use Rattle.cache.specs.declared.types.Link.the-variants.{Idle, Busy}
 use Rattle.cache.specs.Rules.{State, canTick, ticked, isIdle, released}
 use Rattle.cache.specs.Decisions.{OnePlace}
-use Rattle.cache.proofs.Places.{requested-one, received-one, lost-one}
+use Rattle.refinement.proofs.Places.{requested-one, received-one, lost-one}
 use Rattle.model.specs.Exchanges as model
 use Rattle.model.specs.World as world
 use Rattle.model.proofs.Played.{played-on}
