@@ -18,10 +18,11 @@ use Rattle.cache.specs.declared.types.Exchange.{Exchange}
 use Rattle.cache.specs.declared.types.Words.{Words}
 use Rattle.cache.specs.declared.types.Looked.{Looked}
 use Rattle.cache.specs.declared.types.Looked.the-variants.{Served, Forwarded, Refused}
-use Rattle.cache.specs.Rules.{State, Ask, Knows, turn, mayServe, keyOf, freeLink, canForward, forwards, revalidates, serves, readsAt, readsFrom, requested}
-use Rattle.cache.specs.Answers.{Fits, keyAt, isPinned, isStale, mayGo, isSpent, lastUse, older, oldestTo, orElse, roomFor, mayStore, rowFor, putAt, stored}
+use Rattle.cache.specs.Rules.{State, Ask, turn, mayServe, keyOf, freeLink, canForward, forwards, revalidates, serves, readsAt, readsFrom, requested}
+use Rattle.cache.specs.Answers.{keyAt, isPinned, isStale, mayGo, isSpent, lastUse, older, oldestTo, orElse, roomFor, mayStore, rowFor, putAt, stored}
 use Rattle.cache.specs.Decisions.{servableRow, servableAt, servable, isServed, KeepsOthers, SparesPinned, StoresIt}
 use Rattle.cache.proofs.Rooms.{room-within}
+use Rattle.cache.proofs.Names.{Fits, Knows}
 
 bad : {P : Type 0} → _≡_ {A = ℕ} 0 1 → P
 bad e = absurd (omega arith)

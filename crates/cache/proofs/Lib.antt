@@ -1,4 +1,5 @@
 -- Lemmas on a cache.
+pub mod Names
 pub mod Loops
 pub mod Rooms
 pub mod Decided

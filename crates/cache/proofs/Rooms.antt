@@ -14,7 +14,8 @@ use Rattle.store.proofs.Firsts.{found-passes}
 use Rattle.cache.specs.declared.types.Exchange.{Exchange}
 use Rattle.cache.specs.declared.types.Words.{Words}
 use Rattle.cache.specs.Rules.{State}
-use Rattle.cache.specs.Answers.{Fits, keyAt, mayGo, isSpent, lastUse, older, oldestTo, orElse, roomFor, stored, withdrawn, agreed, full}
+use Rattle.cache.specs.Answers.{keyAt, mayGo, isSpent, lastUse, older, oldestTo, orElse, roomFor, stored, withdrawn, agreed, full}
+use Rattle.cache.proofs.Names.{Fits}
 
 older-within : (s : State) (b : Option ℕ) (n i : ℕ) → ((j : ℕ) → b ≡ Some j → j < n) → older s b n ≡ Some i → i < suc n
 older-within s None n i old h = go (mayGo s (getD (s .slots) n Empty)) h

@@ -26,7 +26,7 @@ use Rattle.cache.specs.declared.types.Exchange.{Exchange}
 use Rattle.cache.specs.declared.types.Looked.{Looked}
 use Rattle.cache.specs.declared.types.Looked.the-variants.{Served, Forwarded, Refused}
 use Rattle.cache.specs.Rules.{State, Ask, mayServe}
-use Rattle.cache.specs.Answers.{Fits, keyAt, isPinned, mayStore, rowFor}
+use Rattle.cache.specs.Answers.{keyAt, isPinned, mayStore, rowFor}
 
 abbrev pub servableRow : ℕ → Option Row → Bool
 servableRow tick None = false
@@ -52,7 +52,7 @@ abbrev pub SparesPinned : ℕ → State → Option ℕ → Type 0
 SparesPinned c s None = Unit {0}
 SparesPinned c s (Some i) = isPinned s (getD (s .slots) i Empty) ≡ true → (holds (isFor (keyAt c s .path) (keyAt c s .language)) (getD (s .slots) i Empty) || isEmpty (getD (s .slots) i Empty)) ≡ true
 
-abbrev pub StoresIt : Fits → ℕ → Exchange → Bool → Option (List ℕ) → List ℕ → Words → State → Option ℕ → State → Type 0
+abbrev pub StoresIt : (Option (List ℕ) → List ℕ → Bool) → ℕ → Exchange → Bool → Option (List ℕ) → List ℕ → Words → State → Option ℕ → State → Type 0
 StoresIt fits c x varies tag body w s None after = Unit {0}
 StoresIt fits c x varies tag body w s (Some i) after = (mayStore x w && fits tag body) ≡ true →
     getD (after .slots) i Empty ≡ Filled (record { path = keyAt c s .path; language = keyAt c s .language; tag = tag; body = body; row = rowFor (s .tick) x varies w })

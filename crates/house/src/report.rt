@@ -39,7 +39,7 @@ pub impl From<AllocError> for Trouble as TroubleFromAlloc {
     }
 }
 
-pub fn tell_end(rt: &LibcRuntime, end: End) {
+pub(crate) fn tell_end(rt: &LibcRuntime, end: End) {
     match end {
         End::Whole => {}
         End::Refused(fault, at) => tell_refusal(rt, fault, at),
@@ -68,7 +68,7 @@ fn tell_refusal(rt: &LibcRuntime, fault: Fault, at: u64) {
     };
 }
 
-pub fn tell_trouble(rt: &LibcRuntime, trouble: &Trouble) {
+pub(crate) fn tell_trouble(rt: &LibcRuntime, trouble: &Trouble) {
     let _ = match trouble {
         Trouble::Memory => eprintln!(rt, "house: taking memory: there is too little"),
         Trouble::Reading(error) => eprintln!(rt, "house: reading standard input: {error}"),

@@ -24,16 +24,18 @@ use Rattle.cache.specs.declared.types.Link.the-variants.{Idle, Busy}
 use Rattle.cache.specs.declared.types.Outcome.{Outcome}
 use Rattle.cache.specs.declared.types.Outcome.the-variants.{Nobody, Passed, Held, Fault, Lost}
 use Rattle.cache.specs.Rules.{State, Turn, turn, withSlots, withLinks}
-use Rattle.cache.specs.Answers.{Reply, Full, NotModified, Done, Other, Fits, keyAt, endedAt, markedTo, settled, mayStore, roomFor, rowFor, putAt, stored, withdrawn, agreed, full, renewedRow, renewedAt, renewedFor, renewed, notModified, givenUp, faulty, sameFor, sameAnswered, readAnswered, writeAnswered, answeredOn, received, lostOn, lost}
+use Rattle.cache.specs.Answers.{Reply, Full, NotModified, Done, Other, keyAt, endedAt, markedTo, settled, mayStore, roomFor, rowFor, putAt, stored, withdrawn, agreed, full, renewedRow, renewedAt, renewedFor, renewed, notModified, givenUp, faulty, sameFor, sameAnswered, readAnswered, writeAnswered, answeredOn, received, lostOn, lost}
 use Rattle.model.specs.Exchanges as model
 use Rattle.model.specs.World as world
 use Rattle.model.specs.Promise.{On}
 use Rattle.refinement.specs.Numbers.{numberOf, textOf}
-use Rattle.refinement.specs.Stands.{Bodies, settingOf, keyLanguage, validatorFor, validatorOf, lifeOf, languageIn, storedOf, slotOf, Good, AllGood, isWrite, Same, Shows, Stands, HonestFull, Honest}
+use Rattle.refinement.specs.Stands.{settingOf, keyLanguage, validatorFor, validatorOf, lifeOf, languageIn, storedOf, slotOf, Good, AllGood, isWrite, Same, Shows, Stands, HonestFull, Honest}
 use Rattle.refinement.specs.Steps.{roomAt, placeFor, asksThere, storesAt, placeAt, outcomeEvents, answerEvents, contentOf, deliveryOf, outcomeGives, lostEvents, lostGives, StepSo, suits, hasValidator, HonestOn, AnswerSo, LoseSo}
 use Rattle.refinement.proofs.Numbered.{bad, bytes-same, even-tagged, odd-untagged}
 use Rattle.refinement.proofs.Slots.{get-slot, set-slot, map-without, good-without, good-at, good-set, of-path, is-for, for-resource, for-key, is-tagged}
 use Rattle.refinement.proofs.Links.{get-map, marked-get, length-marked-eight, shows-marked, shows-ended}
+use Rattle.cache.proofs.Names.{Fits}
+use Rattle.refinement.proofs.Names.{Bodies}
 
 -- nothing that is stored says otherwise about `vary`
 none-passes : (p : Slot → Bool) (ks : List Slot) → ((i : ℕ) → p (getD ks i Empty) ≡ false) → first p ks ≡ length ks

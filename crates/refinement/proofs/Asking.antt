@@ -20,15 +20,17 @@ use Rattle.cache.specs.declared.types.Link.{Link}
 use Rattle.cache.specs.declared.types.Link.the-variants.{Idle, Busy}
 use Rattle.cache.specs.declared.types.Looked.{Looked}
 use Rattle.cache.specs.declared.types.Looked.the-variants.{Served, Forwarded, Refused}
-use Rattle.cache.specs.Rules.{State, Ask, Knows, Turn, turn, withSlots, canTick, ticked, mayServe, keyOf, isIdle, freeLink, canForward, begun, begins, forwards, asksSame, revalidates, usedAt, serves, servesUnless, readsAt, readsFrom, requested}
+use Rattle.cache.specs.Rules.{State, Ask, Turn, turn, withSlots, canTick, ticked, mayServe, keyOf, isIdle, freeLink, canForward, begun, begins, forwards, asksSame, revalidates, usedAt, serves, servesUnless, readsAt, readsFrom, requested}
 use Rattle.model.specs.Exchanges as model
 use Rattle.model.specs.World as world
 use Rattle.refinement.specs.Numbers.{numberOf, textOf}
-use Rattle.refinement.specs.Stands.{Bodies, keyLanguage, validatorOf, languageIn, storedOf, slotOf, Good, AllGood, isWrite, Same, Shows, Stands}
+use Rattle.refinement.specs.Stands.{keyLanguage, validatorOf, languageIn, storedOf, slotOf, Good, AllGood, isWrite, Same, Shows, Stands}
 use Rattle.refinement.specs.Steps.{tickEvents, methodOf, lookedEvents, lookedGives, StepSo, TickSo, AskSo, OriginEvent, changes, acts, declines, OriginSo}
 use Rattle.refinement.proofs.Numbered.{bad}
 use Rattle.refinement.proofs.Slots.{get-slot, set-slot, set-same, good-at, good-set, is-for, for-resource, for-key, may-serve}
 use Rattle.refinement.proofs.Links.{same-or-not, shows-begun}
+use Rattle.cache.proofs.Names.{Knows}
+use Rattle.refinement.proofs.Names.{Bodies}
 
 pub tick-so : (st : State) → TickSo st
 tick-so st b s w h = go (canTick st)

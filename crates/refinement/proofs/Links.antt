@@ -20,8 +20,9 @@ use Rattle.cache.specs.Answers.{outdated, markIf, markedAt, markedTo}
 use Rattle.model.specs.Exchanges as model
 use Rattle.model.specs.World as world
 use Rattle.refinement.specs.Numbers.{numberOf}
-use Rattle.refinement.specs.Stands.{Bodies, Same, Shows}
+use Rattle.refinement.specs.Stands.{Same, Shows}
 use Rattle.refinement.proofs.Numbered.{bad, bytes-number}
+use Rattle.refinement.proofs.Names.{Bodies}
 
 pub same-or-not : (i j : ℕ) → (i ≡ j) ⊎ (i ≢ j)
 same-or-not i j = go (eqb i j) refl

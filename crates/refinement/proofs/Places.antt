@@ -23,9 +23,10 @@ use Rattle.cache.specs.declared.types.Link.{Link}
 use Rattle.cache.specs.declared.types.Link.the-variants.{Idle, Busy}
 use Rattle.cache.specs.declared.types.Outcome.the-variants.{Nobody}
 use Rattle.cache.specs.declared.types.Words.{Words}
-use Rattle.cache.specs.Rules.{State, Ask, Knows, Turn, turn, mayServe, keyOf, canForward, begins, forwards, revalidates, usedAt, serves, readsAt, readsFrom, requested}
-use Rattle.cache.specs.Answers.{Reply, Full, NotModified, Done, Other, Fits, keyAt, endedAt, settled, mayStore, isSpent, oldestTo, orElse, roomFor, rowFor, putAt, stored, withdrawn, agreed, fullAfter, full, renewedRow, renewedAt, renewed, notModified, givenUp, faulty, sameFor, readAnswered, writeAnswered, answeredOn, received, lostOn, lost}
+use Rattle.cache.specs.Rules.{State, Ask, Turn, turn, mayServe, keyOf, canForward, begins, forwards, revalidates, usedAt, serves, readsAt, readsFrom, requested}
+use Rattle.cache.specs.Answers.{Reply, Full, NotModified, Done, Other, keyAt, endedAt, settled, mayStore, isSpent, oldestTo, orElse, roomFor, rowFor, putAt, stored, withdrawn, agreed, fullAfter, full, renewedRow, renewedAt, renewed, notModified, givenUp, faulty, sameFor, readAnswered, writeAnswered, answeredOn, received, lostOn, lost}
 use Rattle.cache.specs.Decisions.{Rivals, OnePlace}
+use Rattle.cache.proofs.Names.{Fits, Knows}
 
 bad : {P : Type 0} → _≡_ {A = ℕ} 0 1 → P
 bad e = absurd (omega arith)

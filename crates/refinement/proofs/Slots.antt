@@ -16,8 +16,9 @@ use Rattle.cache.specs.Rules.{mayServe}
 use Rattle.model.specs.Exchanges as model
 use Rattle.model.specs.World as world
 use Rattle.refinement.specs.Numbers.{numberOf, textOf}
-use Rattle.refinement.specs.Stands.{Bodies, keyLanguage, languageIn, storedOf, slotOf, Good, AllGood}
+use Rattle.refinement.specs.Stands.{keyLanguage, languageIn, storedOf, slotOf, Good, AllGood}
 use Rattle.refinement.proofs.Numbered.{bytes-number, bytes-same, tag-number}
+use Rattle.refinement.proofs.Names.{Bodies}
 
 pub get-slot : (ks : List Slot) (i : ℕ) → getD (map slotOf ks) i model.Empty ≡ slotOf (getD ks i Empty)
 get-slot [] i = refl

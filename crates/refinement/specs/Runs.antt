@@ -17,13 +17,14 @@ use mathlib.Core.Bool.{Bool}
 use mathlib.Core.List.{List, [], _∷_, _++_, reverseAux}
 use Prim.Native.Nat.{ℕ}
 use lib.ListN.{replicate}
+use Rattle.std.specs.declared.option.Option.{Option}
 use Rattle.store.specs.Slots.{Empty, noKey}
-use Rattle.cache.specs.Rules.{State, Ask, Knows, started, ticked, released, requested}
-use Rattle.cache.specs.Answers.{Reply, Fits, received, lost}
+use Rattle.cache.specs.Rules.{State, Ask, started, ticked, released, requested}
+use Rattle.cache.specs.Answers.{Reply, received, lost}
 use Rattle.cache.specs.Decisions.{OnePlace}
 use Rattle.model.specs.World as world
 use Rattle.model.specs.Promise.{Promise}
-use Rattle.refinement.specs.Stands.{Bodies, settingOf, Stands}
+use Rattle.refinement.specs.Stands.{settingOf, Stands}
 use Rattle.refinement.specs.Steps.{tickEvents, askEvents, askGives, answerEvents, answerGives, loseEvents, loseGives, HonestOn}
 
 pub data Happening : Type 0 where
@@ -43,9 +44,9 @@ pub record Run : Type 0 where
 
 -- what a store can remember and has room for, the bodies of validators, which resources vary, how many places there are
 pub record Terms : Type 0 where
-  pub knows : Knows
-  pub fits : Fits
-  pub bodies : Bodies
+  pub knows : List ℕ → List ℕ → Option (List ℕ) → Bool
+  pub fits : Option (List ℕ) → List ℕ → Bool
+  pub bodies : ℕ → ℕ → List ℕ → List ℕ
   pub varies : ℕ → Bool
   pub places : ℕ
 

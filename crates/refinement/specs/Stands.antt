@@ -1,6 +1,6 @@
 -- What it is that a cache stands for a world.
 --
---   Bodies        the body that the origin gives a validator, by resource and language: an origin gives a validator to
+--   b             the body that the origin gives a validator, by resource and language: an origin gives a validator to
 --                 one body and to no other
 --   settingOf     the setting of the model: of which resources the origin says `vary`, and how many places there are
 --   keyLanguage   the language under which what is asked for is stored: 0 where the resource does not vary
@@ -33,20 +33,17 @@ use Rattle.model.specs.Exchanges as model
 use Rattle.model.specs.World as world
 use Rattle.refinement.specs.Numbers.{numberOf, textOf, isEven}
 
-abbrev pub Bodies : Type 0
-Bodies = ℕ → ℕ → List ℕ → List ℕ
-
 abbrev pub settingOf : (ℕ → Bool) → ℕ → world.Setting
 settingOf varies places = record { varies = varies; tagged = isEven; places = places }
 
 abbrev pub keyLanguage : world.Setting → Key → ℕ
 keyLanguage s k = world.languageOf s (numberOf (k .path)) (numberOf (k .language))
 
-abbrev pub validatorFor : Bodies → ℕ → ℕ → Option (List ℕ) → model.Validator
+abbrev pub validatorFor : (ℕ → ℕ → List ℕ → List ℕ) → ℕ → ℕ → Option (List ℕ) → model.Validator
 validatorFor b r l None = model.NoValidator
 validatorFor b r l (Some t) = model.Matching (textOf (Some t) (b r l t))
 
-abbrev pub validatorOf : Bodies → world.Setting → Key → model.Validator
+abbrev pub validatorOf : (ℕ → ℕ → List ℕ → List ℕ) → world.Setting → Key → model.Validator
 validatorOf b s k = validatorFor b (numberOf (k .path)) (keyLanguage s k) (k .tag)
 
 abbrev pub lifeOf : Words → ℕ
@@ -62,11 +59,11 @@ abbrev pub slotOf : Slot → model.Slot
 slotOf Empty = model.Empty
 slotOf (Filled r) = model.Filled (storedOf r)
 
-pub record Good (b : Bodies) (s : world.Setting) (r : Response) : Type 0 where
+pub record Good (b : ℕ → ℕ → List ℕ → List ℕ) (s : world.Setting) (r : Response) : Type 0 where
   pub varies : r .row .varies ≡ s .varies (numberOf (r .path))
   pub body : (t : List ℕ) → r .tag ≡ Some t → r .body ≡ b (numberOf (r .path)) (languageIn r) t
 
-unfoldable pub AllGood : Bodies → world.Setting → List Slot → Type 0
+unfoldable pub AllGood : (ℕ → ℕ → List ℕ → List ℕ) → world.Setting → List Slot → Type 0
 AllGood b s [] = Unit {0}
 AllGood b s (Empty ∷ ks) = AllGood b s ks
 AllGood b s (Filled r ∷ ks) = Good b s r × AllGood b s ks
@@ -75,7 +72,7 @@ abbrev pub isWrite : model.Method → Bool
 isWrite model.Read = false
 isWrite (model.Write t) = true
 
-pub record Same (b : Bodies) (s : world.Setting) (x : Exchange) (k : Key) (held : List ℕ) (y : model.Exchange) : Type 0 where
+pub record Same (b : ℕ → ℕ → List ℕ → List ℕ) (s : world.Setting) (x : Exchange) (k : Key) (held : List ℕ) (y : model.Exchange) : Type 0 where
   pub number : y .number ≡ x .number
   pub client : y .client ≡ x .client
   pub resource : y .resource ≡ numberOf (k .path)
@@ -87,11 +84,11 @@ pub record Same (b : Bodies) (s : world.Setting) (x : Exchange) (k : Key) (held 
   pub validator : y .validator ≡ validatorOf b s k
   pub holds : x .«own_tag» ≡ false → (t : List ℕ) × (k .tag ≡ Some t) × (held ≡ b (numberOf (k .path)) (keyLanguage s k) t)
 
-abbrev pub Shows : Bodies → world.Setting → Link → Key → List ℕ → model.Connection → Type 0
+abbrev pub Shows : (ℕ → ℕ → List ℕ → List ℕ) → world.Setting → Link → Key → List ℕ → model.Connection → Type 0
 Shows b s Idle k held c = c ≡ model.Idle
 Shows b s (Busy x) k held c = (y : model.Exchange) × (c ≡ model.Busy y) × Same b s x k held y
 
-pub record Stands (b : Bodies) (s : world.Setting) (st : State) (w : world.World) : Type 0 where
+pub record Stands (b : ℕ → ℕ → List ℕ → List ℕ) (s : world.Setting) (st : State) (w : world.World) : Type 0 where
   pub tick : st .tick ≡ w .now
   pub next : st .next ≡ w .next
   pub links : (c : ℕ) → Shows b s (getD (st .links) c Idle) (getD (st .keys) c noKey) (getD (st .held) c []) (getD (w .connections) c model.Idle)
@@ -103,12 +100,12 @@ pub record Stands (b : Bodies) (s : world.Setting) (st : State) (w : world.World
   pub eight-connections : length (w .connections) ≡ 8
 
 -- A full answer says of `vary` what the origin always says, and its body is that of its validator.
-pub record HonestFull (b : Bodies) (s : world.Setting) (y : model.Exchange) (varies : Bool) (tag : Option (List ℕ)) (body : List ℕ) (w : Words) : Type 0 where
+pub record HonestFull (b : ℕ → ℕ → List ℕ → List ℕ) (s : world.Setting) (y : model.Exchange) (varies : Bool) (tag : Option (List ℕ)) (body : List ℕ) (w : Words) : Type 0 where
   pub answer : y .answer ≡ model.Full (textOf tag body) (lifeOf w) (w .private)
   pub varies-alike : varies ≡ s .varies (y .resource)
   pub one-body : (t : List ℕ) → tag ≡ Some t → body ≡ b (y .resource) (world.keyOf s y) t
 
-abbrev pub Honest : Bodies → world.Setting → model.Exchange → Reply → Type 0
+abbrev pub Honest : (ℕ → ℕ → List ℕ → List ℕ) → world.Setting → model.Exchange → Reply → Type 0
 Honest b s y (Full varies tag body w) = HonestFull b s y varies tag body w
 Honest b s y (NotModified w) = y .answer ≡ model.NotModified (lifeOf w) (w .private)
 Honest b s y (Done body) = y .answer ≡ model.Done (numberOf body)

@@ -26,13 +26,13 @@ use Rattle.cache.specs.declared.types.Looked.{Looked}
 use Rattle.cache.specs.declared.types.Looked.the-variants.{Served, Forwarded, Refused}
 use Rattle.cache.specs.declared.types.Outcome.{Outcome}
 use Rattle.cache.specs.declared.types.Outcome.the-variants.{Nobody, Passed, Held, Fault, Lost}
-use Rattle.cache.specs.Rules.{State, Ask, Knows, canTick, ticked, requested}
-use Rattle.cache.specs.Answers.{Reply, Full, NotModified, Done, Other, Fits, keyAt, endedAt, mayStore, roomFor, agreed, received, lost}
+use Rattle.cache.specs.Rules.{State, Ask, canTick, ticked, requested}
+use Rattle.cache.specs.Answers.{Reply, Full, NotModified, Done, Other, keyAt, endedAt, mayStore, roomFor, agreed, received, lost}
 use Rattle.model.specs.Exchanges as model
 use Rattle.model.specs.World as world
 use Rattle.model.specs.Promise.{On}
 use Rattle.refinement.specs.Numbers.{numberOf, textOf}
-use Rattle.refinement.specs.Stands.{Bodies, settingOf, validatorOf, isWrite, Stands, Honest}
+use Rattle.refinement.specs.Stands.{settingOf, validatorOf, isWrite, Stands, Honest}
 
 abbrev pub tickEvents : State → List world.Event
 tickEvents st = cond (canTick st) (world.Tick ∷ []) []
@@ -41,13 +41,13 @@ abbrev pub methodOf : Option (List ℕ) → model.Method
 methodOf None = model.Read
 methodOf (Some t) = model.Write (numberOf t)
 
-abbrev pub lookedEvents : Bodies → world.Setting → Ask → Looked → List Key → List world.Event
+abbrev pub lookedEvents : (ℕ → ℕ → List ℕ → List ℕ) → world.Setting → Ask → Looked → List Key → List world.Event
 lookedEvents b s a (Served i) keys = world.Serve (a .client) (numberOf (a .path)) (numberOf (a .language)) i ∷ []
 lookedEvents b s a (Forwarded c) keys = world.Forward c (a .client) (numberOf (a .path)) (numberOf (a .language)) (methodOf (a .write)) (validatorOf b s (getD keys c noKey)) (a .storable) ∷ []
 lookedEvents b s a Refused keys = []
 
 -- what a request asks with is in the keys after it
-abbrev pub askEvents : Knows → Bodies → world.Setting → Ask → State → List world.Event
+abbrev pub askEvents : (List ℕ → List ℕ → Option (List ℕ) → Bool) → (ℕ → ℕ → List ℕ → List ℕ) → world.Setting → Ask → State → List world.Event
 askEvents knows b s a st = lookedEvents b s a (requested knows a st .gives) (requested knows a st .state .keys)
 
 abbrev pub lookedGives : Ask → Looked → List Slot → List world.Delivery
@@ -55,7 +55,7 @@ lookedGives a (Served i) ks = world.served (a .client) (numberOf (a .path)) (num
 lookedGives a (Forwarded c) ks = []
 lookedGives a Refused ks = []
 
-abbrev pub askGives : Knows → Ask → State → List world.Delivery
+abbrev pub askGives : (List ℕ → List ℕ → Option (List ℕ) → Bool) → Ask → State → List world.Delivery
 askGives knows a st = lookedGives a (requested knows a st .gives) (st .slots)
 
 -- the place of a full answer is chosen in the store as it is then
@@ -69,7 +69,7 @@ abbrev pub asksThere : ℕ → State → Option ℕ → Bool
 asksThere c st None = false
 asksThere c st (Some i) = holds (isAsked (keyAt c st)) (getD (st .slots) i Empty)
 
-abbrev pub storesAt : Fits → ℕ → Exchange → Reply → State → Bool
+abbrev pub storesAt : (Option (List ℕ) → List ℕ → Bool) → ℕ → Exchange → Reply → State → Bool
 storesAt fits c x (Full varies tag body w) st = (mayStore x w && fits tag body) && isSome (roomAt c varies st)
 storesAt fits c x (NotModified w) st = mayStore x w && asksThere c st (placeFor c st)
 storesAt fits c x (Done body) st = false
@@ -81,7 +81,7 @@ placeAt c (NotModified w) st = valueOr (placeFor c st) 0
 placeAt c (Done body) st = 0
 placeAt c (Other body) st = 0
 
-abbrev pub outcomeEvents : Fits → ℕ → Link → Reply → Outcome → State → List world.Event
+abbrev pub outcomeEvents : (Option (List ℕ) → List ℕ → Bool) → ℕ → Link → Reply → Outcome → State → List world.Event
 outcomeEvents fits c Idle r o st = []
 outcomeEvents fits c (Busy x) r Nobody st = []
 outcomeEvents fits c (Busy x) r (Passed client) st = world.Receive c (storesAt fits c x r st) (placeAt c r st) ∷ []
@@ -89,10 +89,10 @@ outcomeEvents fits c (Busy x) r (Held client) st = world.Receive c (storesAt fit
 outcomeEvents fits c (Busy x) r (Fault client) st = world.Lose c ∷ []
 outcomeEvents fits c (Busy x) r (Lost client) st = world.Lose c ∷ []
 
-abbrev pub answerEvents : Fits → ℕ → Reply → State → List world.Event
+abbrev pub answerEvents : (Option (List ℕ) → List ℕ → Bool) → ℕ → Reply → State → List world.Event
 answerEvents fits c r st = outcomeEvents fits c (getD (st .links) c Idle) r (received fits c r st .gives) st
 
-abbrev pub contentOf : Bodies → world.Setting → Key → Reply → world.Content
+abbrev pub contentOf : (ℕ → ℕ → List ℕ → List ℕ) → world.Setting → Key → Reply → world.Content
 contentOf b s k (Full varies tag body w) = world.Text (textOf tag body)
 contentOf b s k (NotModified w) = world.Text (world.matched (validatorOf b s k))
 contentOf b s k (Done body) = world.Acknowledged (numberOf body)
@@ -102,7 +102,7 @@ abbrev pub deliveryOf : Exchange → Key → world.Content → world.Delivery
 deliveryOf x k content = record { client = x .client; exchange = x .number; resource = numberOf (k .path); language = numberOf (k .language); content = content }
 
 -- 'not modified' that is passed says: what you hold; what is held is given in full
-abbrev pub outcomeGives : Bodies → world.Setting → ℕ → Link → Reply → Outcome → State → List world.Delivery
+abbrev pub outcomeGives : (ℕ → ℕ → List ℕ → List ℕ) → world.Setting → ℕ → Link → Reply → Outcome → State → List world.Delivery
 outcomeGives b s c Idle r o st = []
 outcomeGives b s c (Busy x) r Nobody st = []
 outcomeGives b s c (Busy x) r (Passed client) st = deliveryOf x (keyAt c st) (contentOf b s (keyAt c st) r) ∷ []
@@ -110,7 +110,7 @@ outcomeGives b s c (Busy x) r (Held client) st = deliveryOf x (keyAt c st) (worl
 outcomeGives b s c (Busy x) r (Fault client) st = deliveryOf x (keyAt c st) world.Lost ∷ []
 outcomeGives b s c (Busy x) r (Lost client) st = deliveryOf x (keyAt c st) world.Lost ∷ []
 
-abbrev pub answerGives : Fits → Bodies → world.Setting → ℕ → Reply → State → List world.Delivery
+abbrev pub answerGives : (Option (List ℕ) → List ℕ → Bool) → (ℕ → ℕ → List ℕ → List ℕ) → world.Setting → ℕ → Reply → State → List world.Delivery
 answerGives fits b s c r st = outcomeGives b s c (getD (st .links) c Idle) r (received fits c r st .gives) st
 
 abbrev pub lostEvents : ℕ → Link → List world.Event
@@ -128,15 +128,15 @@ abbrev pub loseGives : ℕ → State → List world.Delivery
 loseGives c st = lostGives (getD (st .links) c Idle) (keyAt c st)
 
 -- it stands for the world after these events, in which these deliveries were added
-pub record StepSo (b : Bodies) (s : world.Setting) (st : State) (w : world.World) (es : List world.Event) (ds : List world.Delivery) : Type 0 where
+pub record StepSo (b : ℕ → ℕ → List ℕ → List ℕ) (s : world.Setting) (st : State) (w : world.World) (es : List world.Event) (ds : List world.Delivery) : Type 0 where
   pub stands : Stands b s st (world.played s w es)
   pub delivered : world.played s w es .delivered ≡ ds ++ w .delivered
 
 abbrev pub TickSo : State → Type 0
-TickSo st = (b : Bodies) (s : world.Setting) (w : world.World) → Stands b s st w → StepSo b s (ticked st) w (tickEvents st) []
+TickSo st = (b : ℕ → ℕ → List ℕ → List ℕ) (s : world.Setting) (w : world.World) → Stands b s st w → StepSo b s (ticked st) w (tickEvents st) []
 
-abbrev pub AskSo : Knows → Ask → State → Type 0
-AskSo knows a st = (b : Bodies) (s : world.Setting) (w : world.World) → Stands b s st w → StepSo b s (requested knows a st .state) w (askEvents knows b s a st) (askGives knows a st)
+abbrev pub AskSo : (List ℕ → List ℕ → Option (List ℕ) → Bool) → Ask → State → Type 0
+AskSo knows a st = (b : ℕ → ℕ → List ℕ → List ℕ) (s : world.Setting) (w : world.World) → Stands b s st w → StepSo b s (requested knows a st .state) w (askEvents knows b s a st) (askGives knows a st)
 
 abbrev pub hasValidator : model.Validator → Bool
 hasValidator model.NoValidator = false
@@ -149,15 +149,15 @@ suits y (Done body) = isWrite (y .method)
 suits y (Other body) = true
 
 -- The origin is honest on a connection: an answer that suits the exchange there is what it said.
-abbrev pub HonestOn : Bodies → world.Setting → world.World → ℕ → Reply → Type 0
+abbrev pub HonestOn : (ℕ → ℕ → List ℕ → List ℕ) → world.Setting → world.World → ℕ → Reply → Type 0
 HonestOn b s w c r = (y : model.Exchange) → On w c y → suits y r ≡ true → Honest b s y r
 
-abbrev pub AnswerSo : Fits → ℕ → Reply → State → Type 0
-AnswerSo fits c r st = (b : Bodies) (varies : ℕ → Bool) (places : ℕ) (w : world.World) → Stands b (settingOf varies places) st w → HonestOn b (settingOf varies places) w c r →
+abbrev pub AnswerSo : (Option (List ℕ) → List ℕ → Bool) → ℕ → Reply → State → Type 0
+AnswerSo fits c r st = (b : ℕ → ℕ → List ℕ → List ℕ) (varies : ℕ → Bool) (places : ℕ) (w : world.World) → Stands b (settingOf varies places) st w → HonestOn b (settingOf varies places) w c r →
     StepSo b (settingOf varies places) (received fits c r st .state) w (answerEvents fits c r st) (answerGives fits b (settingOf varies places) c r st)
 
 abbrev pub LoseSo : ℕ → State → Type 0
-LoseSo c st = (b : Bodies) (s : world.Setting) (w : world.World) → Stands b s st w → StepSo b s (lost c st .state) w (loseEvents c st) (loseGives c st)
+LoseSo c st = (b : ℕ → ℕ → List ℕ → List ℕ) (s : world.Setting) (w : world.World) → Stands b s st w → StepSo b s (lost c st .state) w (loseEvents c st) (loseGives c st)
 
 -- What the origin does of its own accord, or says, the cache does not see.
 pub data OriginEvent : world.Event → Type 0 where
@@ -166,4 +166,4 @@ pub data OriginEvent : world.Event → Type 0 where
   declines : (c reply : ℕ) → OriginEvent (world.Decline c reply)
 
 abbrev pub OriginSo : State → Type 0
-OriginSo st = (b : Bodies) (s : world.Setting) (w : world.World) (e : world.Event) → OriginEvent e → Stands b s st w → StepSo b s st w (e ∷ []) []
+OriginSo st = (b : ℕ → ℕ → List ℕ → List ℕ) (s : world.Setting) (w : world.World) (e : world.Event) → OriginEvent e → Stands b s st w → StepSo b s st w (e ∷ []) []
