@@ -31,9 +31,10 @@ use Rattle.model.specs.Promise.{On}
 use Rattle.refinement.specs.Numbers.{numberOf, textOf}
 use Rattle.refinement.specs.Stands.{settingOf, keyLanguage, validatorFor, validatorOf, lifeOf, languageIn, storedOf, slotOf, Good, AllGood, isWrite, Same, Shows, Stands, HonestFull, Honest}
 use Rattle.refinement.specs.Steps.{roomAt, placeFor, asksThere, storesAt, placeAt, outcomeEvents, answerEvents, contentOf, deliveryOf, outcomeGives, lostEvents, lostGives, StepSo, suits, hasValidator, HonestOn, AnswerSo, LoseSo}
-use Rattle.refinement.proofs.Numbered.{bad, bytes-same, even-tagged, odd-untagged}
+use Rattle.promise.proofs.Lists.{bad, get-map}
+use Rattle.refinement.proofs.Numbered.{bytes-same, even-tagged, odd-untagged}
 use Rattle.refinement.proofs.Slots.{get-slot, set-slot, map-without, good-without, good-at, good-set, of-path, is-for, for-resource, for-key, is-tagged}
-use Rattle.refinement.proofs.Links.{get-map, marked-get, length-marked-eight, shows-marked, shows-ended}
+use Rattle.refinement.proofs.Links.{marked-get, length-marked-eight, shows-marked, shows-ended}
 use Rattle.cache.proofs.Names.{Fits}
 use Rattle.refinement.proofs.Names.{Bodies}
 

@@ -26,7 +26,7 @@ use Rattle.model.specs.World as world
 use Rattle.refinement.specs.Numbers.{numberOf, textOf}
 use Rattle.refinement.specs.Stands.{keyLanguage, validatorOf, languageIn, storedOf, slotOf, Good, AllGood, isWrite, Same, Shows, Stands}
 use Rattle.refinement.specs.Steps.{tickEvents, methodOf, lookedEvents, lookedGives, StepSo, TickSo, AskSo, OriginEvent, changes, acts, declines, OriginSo}
-use Rattle.refinement.proofs.Numbered.{bad}
+use Rattle.promise.proofs.Lists.{bad}
 use Rattle.refinement.proofs.Slots.{get-slot, set-slot, set-same, good-at, good-set, is-for, for-resource, for-key, may-serve}
 use Rattle.refinement.proofs.Links.{same-or-not, shows-begun}
 use Rattle.cache.proofs.Names.{Knows}

@@ -21,7 +21,8 @@ use Rattle.model.specs.Exchanges as model
 use Rattle.model.specs.World as world
 use Rattle.refinement.specs.Numbers.{numberOf}
 use Rattle.refinement.specs.Stands.{Same, Shows}
-use Rattle.refinement.proofs.Numbered.{bad, bytes-number}
+use Rattle.promise.proofs.Lists.{bad}
+use Rattle.refinement.proofs.Numbered.{bytes-number}
 use Rattle.refinement.proofs.Names.{Bodies}
 
 pub same-or-not : (i j : ℕ) → (i ≡ j) ⊎ (i ≢ j)
@@ -35,11 +36,6 @@ below-or-not : (i j : ℕ) → (i < j) ⊎ (j ≤ i)
 below-or-not i zero = inr (omega arith)
 below-or-not zero (suc j) = inl (omega arith)
 below-or-not (suc i) (suc j) = ⊎-elim (λ h. inl (omega arith)) (λ h. inr (omega arith)) (below-or-not i j)
-
-pub get-map : {A : Type 0} (f : A → A) (d : A) → f d ≡ d → (l : List A) (i : ℕ) → getD (map f l) i d ≡ f (getD l i d)
-get-map f d e [] i = sym e
-get-map f d e (x ∷ l) zero = refl
-get-map f d e (x ∷ l) (suc i) = get-map f d e l i
 
 length-marked : (n : ℕ) (path : List ℕ) (keys : List Key) (links : List Link) → length (markedTo n path keys links) ≡ length links
 unfolding markedTo

@@ -13,10 +13,8 @@ use Rattle.std.specs.shelf.Text.{sameBytes}
 use Rattle.std.specs.declared.option.Option.{Option}
 use Rattle.std.specs.declared.option.Option.the-variants.{Some, None}
 use Rattle.store.specs.Slots.{tagIs}
+use Rattle.promise.proofs.Lists.{bad}
 use Rattle.refinement.specs.Numbers.{spread, numberOf, textOf, isEven}
-
-pub bad : {P : Type 0} → _≡_ {A = ℕ} 0 1 → P
-bad e = absurd (omega arith)
 
 spread-some : (b n : ℕ) → 0 < spread b n
 unfolding spread

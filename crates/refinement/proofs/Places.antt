@@ -18,6 +18,8 @@ use Rattle.std.specs.Options.{isSome}
 use Rattle.store.specs.declared.types.Row.{Row}
 use Rattle.store.specs.Slots.{Response, Slot, Empty, Filled, sameBool, isFor, ofPath, isTagged, otherwise, holds, without, withRow, rowOf, tagOf, first, found, any, isAsked, isEmpty}
 use Rattle.store.proofs.Firsts.{first-here, first-later, found-passes}
+use Rattle.promise.proofs.Lists.{bad, get-set}
+use Rattle.refinement.proofs.Numbered.{bytes-same}
 use Rattle.cache.specs.declared.types.Exchange.{Exchange}
 use Rattle.cache.specs.declared.types.Link.{Link}
 use Rattle.cache.specs.declared.types.Link.the-variants.{Idle, Busy}
@@ -28,23 +30,10 @@ use Rattle.cache.specs.Answers.{Reply, Full, NotModified, Done, Other, keyAt, e
 use Rattle.cache.specs.Decisions.{Rivals, OnePlace}
 use Rattle.cache.proofs.Names.{Fits, Knows}
 
-bad : {P : Type 0} → _≡_ {A = ℕ} 0 1 → P
-bad e = absurd (omega arith)
-
-bytes-same : (xs ys : List ℕ) → sameBytes xs ys ≡ true → xs ≡ ys
-bytes-same xs ys h = search (needs, sameBytes-decides)
-
 bytes-equal : (xs ys : List ℕ) → xs ≡ ys → sameBytes xs ys ≡ true
 bytes-equal xs ys h = search (needs, sameBytes-decides)
 
--- what is at a place after a write, or after some were removed
-get-set : (ks : List Slot) (i : ℕ) (k : Slot) (j : ℕ) → ((j ≡ i) × (getD (set ks i k) j Empty ≡ k)) ⊎ (getD (set ks i k) j Empty ≡ getD ks j Empty)
-get-set [] i k j = inr refl
-get-set (x ∷ ks) zero k zero = inl (refl, refl)
-get-set (x ∷ ks) zero k (suc j) = inr refl
-get-set (x ∷ ks) (suc i) k zero = inr refl
-get-set (x ∷ ks) (suc i) k (suc j) = ⊎-elim (λ t. inl (ap suc (t .0), t .1)) (λ e. inr e) (get-set ks i k j)
-
+-- what is at a place after some were removed
 get-without : (test : Response → Bool) (ks : List Slot) (i : ℕ) (r : Response) → getD (map (without test) ks) i Empty ≡ Filled r → (getD ks i Empty ≡ Filled r) × (test r ≡ false)
 get-without test [] i r h = bad (cc)
 get-without test (k ∷ ks) (suc i) r h = get-without test ks i r h
@@ -81,7 +70,7 @@ flip r q c = record { path = sym (c .path); language = λ f g. sym (c .language 
 
 -- a new response, which has no rival elsewhere
 one-set : (ks : List Slot) (i : ℕ) (r : Response) → OnePlace ks → ((j : ℕ) (q : Response) → getD ks j Empty ≡ Filled q → Rivals r q → i ≡ j) → OnePlace (set ks i (Filled r))
-one-set ks i r u new a b x y hx hy c = go (get-set ks i (Filled r) a) (get-set ks i (Filled r) b)
+one-set ks i r u new a b x y hx hy c = go (get-set ks i (Filled r) Empty a) (get-set ks i (Filled r) Empty b)
   where
     is : (z : Response) → Filled r ≡ Filled z → r ≡ z
     is z e = cc

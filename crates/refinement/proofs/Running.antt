@@ -20,16 +20,11 @@ use Rattle.promise.proofs.Promised.{promised}
 use Rattle.refinement.specs.Stands.{slotOf, AllGood, Shows, Stands}
 use Rattle.refinement.specs.Steps.{StepSo, changes, acts, declines}
 use Rattle.refinement.specs.Runs.{Happening, Ticks, Asks, Answers, Loses, Releases, Changes, Acts, Declines, Run, Terms, settingIn, fresh, goes, run, HonestNow, Honest, Kept, CacheKeeps, CacheHasOnePlace}
-use Rattle.refinement.proofs.Numbered.{bad}
+use Rattle.promise.proofs.Lists.{bad, get-replicate}
 use Rattle.refinement.proofs.Links.{same-or-not}
 use Rattle.refinement.proofs.Asking.{tick-so, origin-so, ask-so}
 use Rattle.refinement.proofs.Answering.{answer-so, lose-so}
 use Rattle.refinement.proofs.Names.{Bodies}
-
-get-replicate : {A : Type 0} (n i : ℕ) (d : A) → getD (replicate n d) i d ≡ d
-get-replicate zero i d = refl
-get-replicate (suc n) zero d = refl
-get-replicate (suc n) (suc i) d = get-replicate n i d
 
 empty-slots : (n : ℕ) → map slotOf (replicate n Empty) ≡ replicate n model.Empty
 empty-slots zero = refl
