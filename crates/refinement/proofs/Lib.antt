@@ -7,3 +7,4 @@ pub mod Asking
 pub mod Answering
 pub mod Places
 pub mod Running
+pub mod Exampling

@@ -3,3 +3,4 @@ pub mod Numbers
 pub mod Stands
 pub mod Steps
 pub mod Runs
+pub mod Example
