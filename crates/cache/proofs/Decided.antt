@@ -18,7 +18,7 @@ use Rattle.cache.specs.declared.types.Exchange.{Exchange}
 use Rattle.cache.specs.declared.types.Words.{Words}
 use Rattle.cache.specs.declared.types.Looked.{Looked}
 use Rattle.cache.specs.declared.types.Looked.the-variants.{Served, Forwarded, Refused}
-use Rattle.cache.specs.Rules.{State, Ask, turn, mayServe, keyOf, freeLink, canForward, forwards, revalidates, serves, readsAt, readsFrom, requested}
+use Rattle.cache.specs.Rules.{State, Ask, turn, mayServe, keyOf, freeLink, canForward, begins, forwards, revalidates, serves, readsAt, readsFrom, requested}
 use Rattle.cache.specs.Answers.{keyAt, isPinned, isStale, mayGo, isSpent, lastUse, older, oldestTo, orElse, roomFor, mayStore, rowFor, putAt, stored}
 use Rattle.cache.specs.Decisions.{servableRow, servableAt, servable, isServed, KeepsOthers, SparesPinned, StoresIt}
 use Rattle.cache.proofs.Rooms.{room-within}
@@ -33,9 +33,11 @@ not-served true t u c = refl
 not-served false t u c = refl
 
 forwards-not : (knows : Knows) (a : Ask) (s : State) → isServed (forwards knows a s .gives) ≡ false
+unfolding begins
 forwards-not knows a s = not-served (canForward knows (keyOf a (a .tag)) s) _ s (freeLink s)
 
 revalidates-not : (knows : Knows) (a : Ask) (i : ℕ) (s : State) → isServed (revalidates knows a i s .gives) ≡ false
+unfolding begins
 revalidates-not knows a i s = not-served (canForward knows (keyOf a (tagOf (getD (s .slots) i Empty))) s) _ s (freeLink s)
 
 reads-at : (knows : Knows) (a : Ask) (i : ℕ) (o : Option Row) (s : State) → isServed (readsAt knows a i o s .gives) ≡ (servableRow (s .tick) o && not (a .noCache))
@@ -77,6 +79,7 @@ or-right true y e = refl
 or-right false y e = e
 
 pub keeps-others : (c : ℕ) (s : State) → KeepsOthers c s (roomFor c s)
+unfolding roomFor
 keeps-others c s = either-first (found (holds (isFor (keyAt c s .path) (keyAt c s .language))) (s .slots)) _ (KeepsOthers c s)
     (λ i e q. or-left _ _ (found-passes (holds (isFor (keyAt c s .path) (keyAt c s .language))) (s .slots) Empty i e .1))
     (λ none. either-first (found isEmpty (s .slots)) _ (KeepsOthers c s) (λ i e q. or-right _ _ (found-passes isEmpty (s .slots) Empty i e .1)) (λ e. full (orElse (found (isSpent s) (s .slots)) (oldestTo (length (s .slots)) s)) (found-any isEmpty (s .slots) e)))
@@ -128,6 +131,7 @@ oldest-free zero s = tt
 oldest-free (suc n) s = older-free s (oldestTo n s) n (oldest-free n s)
 
 pub spares-pinned : (c : ℕ) (s : State) → SparesPinned c s (roomFor c s)
+unfolding roomFor
 spares-pinned c s = either-first (found (holds (isFor (keyAt c s .path) (keyAt c s .language))) (s .slots)) _ (SparesPinned c s)
     (λ i e q. or-left _ _ (found-passes (holds (isFor (keyAt c s .path) (keyAt c s .language))) (s .slots) Empty i e .1))
     (λ none. either-first (found isEmpty (s .slots)) _ (SparesPinned c s) (λ i e q. or-right _ _ (found-passes isEmpty (s .slots) Empty i e .1))

@@ -39,6 +39,7 @@ either None b n f g i h = g i h
 either (Some j) b n f g i h = f i h
 
 pub room-within : (c : ℕ) (s : State) (i : ℕ) → roomFor c s ≡ Some i → i < length (s .slots)
+unfolding roomFor
 room-within c s i h =
     either (found (holds (isFor (keyAt c s .path) (keyAt c s .language))) (s .slots)) _ (length (s .slots)) (λ j q. found-passes (holds (isFor (keyAt c s .path) (keyAt c s .language))) (s .slots) Empty j q .0)
     (either (found isEmpty (s .slots)) _ (length (s .slots)) (λ j q. found-passes isEmpty (s .slots) Empty j q .0) (either (found (isSpent s) (s .slots)) _ (length (s .slots)) (λ j q. found-passes (isSpent s) (s .slots) Empty j q .0) (λ j. oldest-within (length (s .slots)) s j))) i h

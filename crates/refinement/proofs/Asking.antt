@@ -117,6 +117,7 @@ forward-step s w c cl r l m v storable e f = ap (λ (k : model.Connection). worl
 -- a request that is forwarded, with this validator
 begins-so : (b : Bodies) (s : world.Setting) (w : world.World) (knows : Knows) (a : Ask) (own : Bool) (tag : Option (List ℕ)) (body : List ℕ) (st : State) → Stands b s st w →
     (own ≡ false → (t : List ℕ) × (tag ≡ Some t) × (body ≡ b (numberOf (a .path)) (keyLanguage s (keyOf a tag)) t)) → AskTurn b s w a st (begins knows a own (keyOf a tag) body st)
+unfolding begins
 begins-so b s w knows a own tag body st h hold = go (canForward knows (keyOf a tag) st) refl
   where
     c : ℕ

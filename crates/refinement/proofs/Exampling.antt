@@ -5,7 +5,8 @@ use mathlib.Core.List.{List, [], _∷_}
 use Prim.Native.Nat.{ℕ}
 use Rattle.std.specs.shelf.Text.{sameBytes}
 use Rattle.std.specs.declared.option.Option.the-variants.{Some}
-use Rattle.cache.specs.Answers.{Reply, Full, NotModified, Done, full, markedTo, pinnedTo, oldestTo}
+use Rattle.cache.specs.Rules.{begins}
+use Rattle.cache.specs.Answers.{Reply, Full, NotModified, Done, roomFor, full, markedTo, pinnedTo, oldestTo}
 use Rattle.store.specs.Slots.{first}
 use Rattle.model.specs.Exchanges as model
 use Rattle.model.specs.World as world
@@ -27,7 +28,7 @@ one-body : (t : List ℕ) → Some zeroth ≡ Some t → three ≡ cond (sameByt
 one-body t e = let q : zeroth ≡ t = cc in subst (λ (z : List ℕ). three ≡ cond (sameBytes z zeroth) three (4 ∷ [])) q refl
 
 pub exampled : Exampled
-unfolding run Honest world.world spread numberOf textOf isEven first full markedTo pinnedTo oldestTo
+unfolding run Honest begins roomFor world.world spread numberOf textOf isEven first full markedTo pinnedTo oldestTo
 exampled = record {
   honest = (
     λ y on suits. subst (λ (z : model.Exchange). HonestTo (terms .bodies) (settingIn terms) z (NotModified words)) (is-it _ y on) refl,

@@ -142,6 +142,7 @@ agreed-all c varies s u = go (any (holds (otherwise (keyAt c s .path) varies)) (
 -- a new answer takes the place of its rival, if it has one
 room-alone : (c : ℕ) (varies : Bool) (s : State) (r : Response) (i : ℕ) → OnePlace (s .slots) → Agree (keyAt c s .path) varies (s .slots) → r .path ≡ keyAt c s .path → r .language ≡ keyAt c s .language → r .row .varies ≡ varies → roomFor c s ≡ Some i →
     (j : ℕ) (q : Response) → getD (s .slots) j Empty ≡ Filled q → Rivals r q → i ≡ j
+unfolding roomFor
 room-alone c varies s r i u agree rp rl rv room j q hq rivals = at (getD (s .slots) k Empty) refl (found-passes p (s .slots) Empty k here .1)
   where
     p : Slot → Bool
@@ -276,6 +277,7 @@ lost-one c s u = go (ltb c 8) (getD (s .links) c Idle)
     go b l = one-cond b (lostOn c l s) (turn s Nobody) (on l) u
 
 pub requested-one : (knows : Knows) (a : Ask) (s : State) → OnePlace (s .slots) → OnePlace (requested knows a s .state .slots)
+unfolding begins
 requested-one knows a s u = go (isSome (a .write))
   where
     begun : (own : Bool) (tag : Option (List ℕ)) (body : List ℕ) → OnePlace (begins knows a own (keyOf a tag) body s .state .slots)
