@@ -18,7 +18,7 @@ pub enum Trouble {
 
 impl Trouble {
     /// The line of the script that it is about.
-    pub fn at(self, line: u64) -> Trouble {
+    pub(crate) fn at(self, line: u64) -> Trouble {
         match self {
             Trouble::Script(_, error) => Trouble::Script(line, error),
             Trouble::Broken => Trouble::Broken,

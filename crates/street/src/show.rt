@@ -15,7 +15,7 @@ use std::alloc::AllocError;
 use std::alloc::Global;
 
 /// One line; none for what no client sees.
-pub fn put_shown(
+pub(crate) fn put_shown(
     heap: Global,
     out: &mut Vec<u8>,
     game: &Game,
@@ -128,7 +128,7 @@ fn wrong(verdict: Verdict) -> &'static [u8] {
 }
 
 /// The counts and the verdict.
-pub fn put_end(heap: Global, out: &mut Vec<u8>, game: &Game) -> Result<(), AllocError> {
+pub(crate) fn put_end(heap: Global, out: &mut Vec<u8>, game: &Game) -> Result<(), AllocError> {
     put_count(heap, out, b"from the store  ", game.counts.kept)?;
     put_count(heap, out, b"from the origin ", game.counts.owner)?;
     put_count(heap, out, b"writes done     ", game.counts.writes)?;
