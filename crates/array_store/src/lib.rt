@@ -1,4 +1,6 @@
 // A small store by value: 64 places in a fixed array, with texts of at most 255 bytes.
+#![tactic(auto)]
+
 pub mod array;
 mod entry;
 mod place;

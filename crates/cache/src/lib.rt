@@ -1,4 +1,6 @@
 // The decisions of a cache, over any store.
+#![tactic(auto)]
+
 pub mod answers;
 pub mod cache;
 pub mod links;

@@ -1,4 +1,6 @@
 // Event frames that come in, and frames that go out.
+#![tactic(auto)]
+
 pub mod events;
 pub mod faults;
 pub mod kinds;

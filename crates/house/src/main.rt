@@ -1,4 +1,6 @@
 // The program `house`: event frames on standard input, frames on standard output.
+#![tactic(auto)]
+
 ghost use Rattle.std.specs.Prelude.{◌≡◌, ◌+◌, ◌<◌, ◌≤◌, length, take, IfOk};
 ghost use Rattle.proxy.specs.Batches.{take_all};
 ghost use Rattle.proxy.specs.Steps.{view};

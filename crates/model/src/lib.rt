@@ -1,4 +1,6 @@
 // The world model: functions whose contracts carry what is shown of its definitions by example.
+#![tactic(auto)]
+
 ghost use Rattle.std.specs.Prelude.{length, ◌≡◌};
 ghost use Rattle.model.specs.Cases.{rows, WorkedCases, PlayedIsWorld, Overtaken};
 

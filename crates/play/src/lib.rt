@@ -1,4 +1,6 @@
 // Plays an origin, clients and slow connections through a cache, and judges every answer by what the origin had.
+#![tactic(auto)]
+
 pub mod game;
 pub mod history;
 pub mod judge;

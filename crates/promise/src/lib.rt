@@ -1,4 +1,6 @@
 // The proof of the promise: the function whose contract carries it.
+#![tactic(auto)]
+
 ghost use Rattle.model.specs.Promise.{Promised};
 
 /// The promise holds of every run, in every setting.

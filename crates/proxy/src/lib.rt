@@ -1,4 +1,6 @@
 // The proxy: events in, frames out.
+#![tactic(auto)]
+
 pub mod batch;
 pub mod marks;
 pub mod proxy;

@@ -1,4 +1,6 @@
 // The rules of a cache make the steps of the model: functions whose contracts carry what is promised of whole runs.
+#![tactic(auto)]
+
 ghost use Rattle.refinement.specs.Example.{Exampled};
 ghost use Rattle.refinement.specs.Runs.{CacheKeeps, CacheHasOnePlace};
 

@@ -1,4 +1,6 @@
 // The program `street`: a script on standard input, what clients are given on standard output, and the verdict.
+#![tactic(auto)]
+
 mod messages;
 mod show;
 

@@ -4,4 +4,4 @@ use Rattle.frames.proofs.reader.read_event.Goals as goal
 
 pub returns : goal.returns
 unfolding event_of
-returns c = c.read-front.ensures
+returns c = c.read_front.ensures

@@ -3,8 +3,8 @@ use Rattle.std.proofs.Common.{rules}
 use Rattle.lists.proofs.Firsts.{sought_more, any_here, any_none}
 use Rattle.play.proofs.judge.any_undone.Goals as goal
 
-pub returns-then-is-undone : goal.returns-then-is-undone
-returns-then-is-undone c = search (rules, any_here)
+pub returns-then-is_undone : goal.returns-then-is_undone
+returns-then-is_undone c = search (rules, any_here)
 
 pub loop-write-preserved : goal.loop-write-preserved
 loop-write-preserved c = search (rules, sought_more)

@@ -14,4 +14,4 @@ pub returns-in-Err : goal.returns-in-Err
 returns-in-Err t c = settings_fault c.args.left c.args.verb (said_of c.args.said) c.args.text.now c.in-Some.word.now c.in-Some.behind.now c.in-Err.error (omega arith) c.in-Some.ensures c.in-Err.ensures
 
 pub returns-in-Ok : goal.returns-in-Ok
-returns-in-Ok t c = settings_next c.args.left c.args.verb (said_of c.args.said) (said_of c.in-Ok.more) c.args.text.now c.in-Some.word.now c.in-Some.behind.now (seen_ok said_of c.settings-on.result) (omega arith) c.in-Some.ensures c.in-Ok.ensures c.settings-on.ensures
+returns-in-Ok t c = settings_next c.args.left c.args.verb (said_of c.args.said) (said_of c.in-Ok.more) c.args.text.now c.in-Some.word.now c.in-Some.behind.now (seen_ok said_of c.settings_on.result) (omega arith) c.in-Some.ensures c.in-Ok.ensures c.settings_on.ensures

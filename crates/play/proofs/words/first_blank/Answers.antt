@@ -3,8 +3,8 @@ use Rattle.std.proofs.Common.{rules}
 use Rattle.lists.proofs.Firsts.{sought_more, sought_found, sought_all}
 use Rattle.play.proofs.words.first_blank.Goals as goal
 
-pub returns-then-is-blank : goal.returns-then-is-blank
-returns-then-is-blank c = record { is = search (rules, sought_found); within = search rules }
+pub returns-then-is_blank : goal.returns-then-is_blank
+returns-then-is_blank c = record { is = search (rules, sought_found); within = search rules }
 
 pub loop-i-preserved : goal.loop-i-preserved
 loop-i-preserved c = search (rules, sought_more)

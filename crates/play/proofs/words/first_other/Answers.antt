@@ -3,8 +3,8 @@ use Rattle.std.proofs.Common.{rules}
 use Rattle.lists.proofs.Firsts.{sought_more, sought_found, sought_all}
 use Rattle.play.proofs.words.first_other.Goals as goal
 
-pub returns-then-not-is-blank : goal.returns-then-not-is-blank
-returns-then-not-is-blank c = record { is = search (rules, sought_found); within = search rules }
+pub returns-then-not-is_blank : goal.returns-then-not-is_blank
+returns-then-not-is_blank c = record { is = search (rules, sought_found); within = search rules }
 
 pub loop-i-preserved : goal.loop-i-preserved
 loop-i-preserved c = search (rules, sought_more)

@@ -2,4 +2,4 @@
 use Rattle.proxy.proofs.proxy.put_refusal.Goals as goal
 
 pub returns : goal.returns
-returns g c = g.S.Sink.onward _ _ _ _ _ c.put-response.ensures c.close-client.ensures
+returns g c = g.S.Sink.onward _ _ _ _ _ c.put_response.ensures c.close_client.ensures

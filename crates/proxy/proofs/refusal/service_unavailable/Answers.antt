@@ -4,4 +4,4 @@ use Rattle.proxy.proofs.refusal.service_unavailable.Goals as goal
 
 pub returns : goal.returns
 unfolding unavailable
-returns c = c.unavailable-text.ensures
+returns c = c.unavailable_text.ensures

@@ -11,10 +11,10 @@ pub returns-in-Some : goal.returns-in-Some
 unfolding room_for
 returns-in-Some g c = search rules
 
-pub returns-in-Some-find-free : goal.returns-in-Some-find-free
+pub returns-in-Some-find_free : goal.returns-in-Some-find_free
 unfolding room_for
-returns-in-Some-find-free g c = search rules
+returns-in-Some-find_free g c = search rules
 
-pub returns-in-Some-find-spent : goal.returns-in-Some-find-spent
+pub returns-in-Some-find_spent : goal.returns-in-Some-find_spent
 unfolding room_for
-returns-in-Some-find-spent g c = search rules
+returns-in-Some-find_spent g c = search rules

@@ -6,5 +6,5 @@ use Rattle.cache.proofs.types.Cache.find_spent.Goals as goal
 pub places-preserved : goal.places-preserved
 places-preserved g c = search (rules, sought_more)
 
-pub returns-then-is-spent : goal.returns-then-is-spent
-returns-then-is-spent g c = search (rules, found_here)
+pub returns-then-is_spent : goal.returns-then-is_spent
+returns-then-is_spent g c = search (rules, found_here)
