@@ -17,19 +17,20 @@ use proxy::state::Proxy;
 use proxy::steps::Halt;
 use report::{End, Next, Trouble, tell_end, tell_trouble};
 use std::io::{Read, Write};
+use std::process::ExitCode;
 
 /// What is left of a frame, and a piece of the input behind it that is no shorter than the largest frame.
 const BUFFER: usize = 2 * LARGEST_FRAME;
 
-fn main(rt: HostRuntime) -> Result<(), Trouble> {
+fn main(rt: HostRuntime) -> ExitCode {
     match run(&rt) {
         Ok(end) => {
             tell_end(&rt, end);
-            Ok(())
+            ExitCode::SUCCESS
         }
         Err(trouble) => {
             tell_trouble(&rt, &trouble);
-            Err(trouble)
+            ExitCode::FAILURE
         }
     }
 }

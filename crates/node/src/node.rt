@@ -1,5 +1,5 @@
 // The calls of a cache by value. None asks anything of its caller.
-ghost use Rattle.std.specs.Prelude.{get_or, ◌≡◌};
+ghost use Rattle.std.specs.Prelude.{get_or, ◌≡◌, ◌≤◌};
 ghost use Rattle.array_store.specs.Shorts.{is_known, is_fitting};
 ghost use Rattle.cache.specs.Answers.{reply_of, received, lost};
 ghost use Rattle.cache.specs.Rules.{ask_of, can_tick, ticked, requested};
@@ -75,7 +75,8 @@ impl Node {
 
     /// How many places hold a response.
     pub fn stored(&self) -> usize
-        ensures { result ≡ stored_before 64 (state_in self.now).slots }
+        ensures count { result ≡ stored_before 64 (state_in self.now).slots }
+        ensures at_most { result ≤ 64 }
     {
         let mut stored = 0usize;
         for place in 0..PLACES {

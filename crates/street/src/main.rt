@@ -10,13 +10,14 @@ use play::types::{Command, Game, ScriptError, Verb};
 use play::words::number;
 use show::{put_end, put_shown};
 use std::io::{BufRead, BufReader, Write};
+use std::process::ExitCode;
 
-fn main(rt: HostRuntime) -> Result<(), Trouble> {
+fn main(rt: HostRuntime) -> ExitCode {
     match run(&rt) {
-        Ok(()) => Ok(()),
+        Ok(()) => ExitCode::SUCCESS,
         Err(trouble) => {
             let _ = eprintln!(rt; "street: {trouble}");
-            Err(trouble)
+            ExitCode::FAILURE
         }
     }
 }

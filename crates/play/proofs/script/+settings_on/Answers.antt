@@ -7,8 +7,8 @@ use Rattle.play.proofs.script.+settings_on.Goals as goal
 pub returns-then-left-eq0 : goal.returns-then-left-eq0
 returns-then-left-eq0 t c = search (rules, settings_many)
 
-pub returns-in-default : goal.returns-in-default
-returns-in-default t c = search (rules, settings_end)
+pub returns-in_default : goal.returns-in_default
+returns-in_default t c = search (rules, settings_end)
 
 pub returns-in-Err : goal.returns-in-Err
 returns-in-Err t c = settings_fault c.args.left c.args.verb (said_of c.args.said) c.args.text.now c.in-Some.word.now c.in-Some.behind.now c.in-Err.error (omega arith) c.in-Some.ensures c.in-Err.ensures
