@@ -1,14 +1,14 @@
 -- An event's bytes read back as that event, and no other bytes do.
-use Rattle.std.proofs.Common.{◌≡◌, ℕ, ◌+◌, ◌-◌, ◌*◌, ◌/◌, ◌%◌, ◌<◌, ◌≤◌, ◌⊎◌, List, [], ◌∷◌, ◌++◌, length, get_or, take, drop, sym, refl, ap, ◌∙◌, subst, inl, inr, ⊎_elim, arith}
+use Rattle.std.proofs.Common.{◌≡◌, ℕ, ◌+◌, ◌<◌, ◌≤◌, List, [], ◌∷◌, ◌++◌, length, get_or, take, drop, sym, refl, ◌∙◌, subst, ⊎_elim, arith}
 use lib.Seq.{take-append-add}
-use Rattle.std.proofs.lemmas.List.{length-append, length-drop, length-take-le, take_at, drop_more}
+use Rattle.std.proofs.lemmas.List.{length-append, length-take-le, take_at}
 use Rattle.std.proofs.lemmas.Bool.{cases_lt}
 use Rattle.frames.specs.declared.faults.Fault.{Fault}
 use Rattle.frames.specs.declared.reading.Reading.{Reading}
 use Rattle.frames.specs.declared.reading.Reading.TheVariants.{More, Refused, Whole}
 use Rattle.frames.specs.Events.{Arrival, FromClient, FromOrigin, Broke, Ticked, Gone, Good, number, number_at, high, low, encode, client_of, origin_of, broken_of, ended_of, by_kind, event_of}
 use Rattle.frames.specs.Laws.{ReadsBack, OneEncoding, Bytes}
-use Rattle.frames.proofs.ByKind.{Kind, client, origin, broken, tick, ended, other, kinds, none_there, some_there, bad_kind, client_short, client_more, client_whole, origin_short, origin_bad, origin_early, origin_more, origin_whole, broken_short, broken_bad, broken_whole, ended_short, ended_whole}
+use Rattle.frames.proofs.ByKind.{Kind, client, origin, broken, tick, ended, other, kinds, none_there, some_there, bad_kind, client_more, client_whole, origin_short, origin_bad, origin_early, origin_more, origin_whole, broken_short, broken_bad, broken_whole, ended_short, ended_whole}
 
 pub split : (n : ℕ) → number (high n) (low n) ≡ n
 split n = omega arith

@@ -1,10 +1,10 @@
 -- The bytes of frames that go out read back as those frames.
-use Rattle.std.proofs.Common.{◌≡◌, ℕ, ◌+◌, ◌<◌, ◌≤◌, leb, List, [], ◌∷◌, ◌++◌, length, get_or, take, drop, Some, None, Option, sym, refl, ap, ◌∙◌, arith}
+use Rattle.std.proofs.Common.{◌≡◌, ℕ, ◌+◌, ◌<◌, ◌≤◌, List, [], ◌∷◌, ◌++◌, length, take, drop, Some, sym, refl, ap, ◌∙◌, arith}
 use Rattle.std.proofs.lemmas.List.{length-append, append_cancel_left}
 use Rattle.std.proofs.lemmas.Bool.{le-leb}
 use Rattle.frames.specs.Events.{number, number_at, high, low}
 use Rattle.frames.specs.Frames.{Frame, ToClient, ToOrigin, CloseClient, Open, Close, NotTaken, GoodFrame, frame_bytes, frame_of, once_there, out_bytes}
-use Rattle.frames.specs.Laws.{AllGood, FramesBack, OneReading}
+use Rattle.frames.specs.Laws.{FramesBack, OneReading}
 use Rattle.frames.proofs.Back.{split, body_back}
 
 there : (n : ℕ) (bs : List ℕ) (f : Frame) → n ≤ length bs → once_there n bs f ≡ Some (f, n)

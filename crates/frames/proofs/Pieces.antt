@@ -1,11 +1,11 @@
 -- In whatever pieces bytes come, the same events are read.
-use Rattle.std.proofs.Common.{◌≡◌, ℕ, zero, suc, ◌+◌, ◌-◌, ◌<◌, ◌≤◌, List, [], ◌∷◌, ◌++◌, length, drop, sym, refl, ap, ◌∙◌, append_assoc, append-nil, arith}
-use Rattle.std.proofs.lemmas.List.{length-append, length-drop, drop-append-le}
+use Rattle.std.proofs.Common.{◌≡◌, ℕ, zero, suc, ◌≤◌, List, [], ◌∷◌, ◌++◌, length, drop, sym, refl, ap, ◌∙◌, append_assoc, append-nil, arith}
+use Rattle.std.proofs.lemmas.List.{length-drop, drop-append-le}
 use Rattle.frames.specs.declared.faults.Fault.{Fault}
 use Rattle.frames.specs.declared.reading.Reading.{Reading}
 use Rattle.frames.specs.declared.reading.Reading.TheVariants.{More, Refused, Whole}
 use Rattle.frames.specs.Events.{Arrival, event_of}
-use Rattle.frames.specs.Streams.{End, Left, Stopped, Stream, after, next, events_on, events_of, behind, feed_end, feed, in_pieces, joined, nothing_yet}
+use Rattle.frames.specs.Streams.{End, Left, Stopped, Stream, after, next, events_on, events_of, feed_end, feed, in_pieces, joined}
 use Rattle.frames.specs.Laws.{PiecesAlike}
 use Rattle.frames.proofs.ByKind.{none_there}
 use Rattle.frames.proofs.Back.{event_within}

@@ -1,11 +1,11 @@
 -- A verdict stays, whatever bytes follow.
-use Rattle.std.proofs.Common.{◌≡◌, ℕ, ◌+◌, ◌<◌, ◌≤◌, true, leb, ◌⊎◌, List, ◌++◌, length, get_or, take, drop, sym, refl, ap, ◌∙◌, inl, inr, ⊎_elim, arith}
+use Rattle.std.proofs.Common.{◌≡◌, ℕ, ◌+◌, ◌<◌, ◌≤◌, true, leb, List, ◌++◌, length, get_or, take, drop, sym, refl, ap, ◌∙◌, ⊎_elim, arith}
 use Rattle.std.proofs.lemmas.List.{length-append, length-drop, get_or_append_left, take-append-le, drop-append-le}
 use Rattle.std.proofs.lemmas.Bool.{cases_lt, le-leb}
-use Rattle.frames.specs.declared.reading.Reading.TheVariants.{More, Refused, Whole}
+use Rattle.frames.specs.declared.reading.Reading.TheVariants.{More}
 use Rattle.frames.specs.Events.{number_at, client_of, origin_of, broken_of, ended_of, by_kind, event_of}
 use Rattle.frames.specs.Laws.{Settles}
-use Rattle.frames.proofs.ByKind.{Kind, client, origin, broken, tick, ended, other, kinds, none_there, some_there, bad_kind, client_short, client_more, client_whole, origin_short, origin_bad, origin_early, origin_more, origin_whole, broken_short, broken_bad, broken_whole, ended_short, ended_whole}
+use Rattle.frames.proofs.ByKind.{Kind, client, origin, broken, tick, ended, other, kinds, none_there, some_there, bad_kind, client_short, client_more, client_whole, origin_short, origin_bad, origin_early, origin_more, origin_whole, broken_short, ended_short, ended_whole}
 
 number_append : (bs more : List ℕ) (i : ℕ) → i + 1 < length bs → number_at (bs ++ more) i ≡ number_at bs i
 number_append bs more i h =

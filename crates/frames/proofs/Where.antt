@@ -5,7 +5,7 @@ use Rattle.frames.specs.declared.faults.Fault.{Fault}
 use Rattle.frames.specs.declared.faults.Fault.TheVariants.{UnknownKind, UnknownConnection}
 use Rattle.frames.specs.declared.reading.Reading.{Reading}
 use Rattle.frames.specs.declared.reading.Reading.TheVariants.{More, Refused, Whole}
-use Rattle.frames.specs.Events.{Arrival, number_at, client_of, origin_of, broken_of, ended_of, by_kind, event_of}
+use Rattle.frames.specs.Events.{Arrival, number_at, origin_of, broken_of, by_kind, event_of}
 use Rattle.frames.specs.Laws.{BadKind, BadConnection, RefusedWhere}
 use Rattle.frames.proofs.ByKind.{Kind, client, origin, broken, tick, ended, other, kinds, none_there, some_there, bad_kind, origin_short, origin_bad, origin_early, origin_more, origin_whole, broken_short, broken_bad, broken_whole}
 

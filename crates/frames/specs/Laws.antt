@@ -12,9 +12,7 @@
 --
 -- Assumes nothing.
 use Rattle.std.specs.Prelude.{◌≡◌, ℕ, ◌<◌, ◌≤◌, ◌⊎◌, List, [], ◌∷◌, ◌++◌, length, take, Some, ◌≢◌, slice_index}
-use Rattle.frames.specs.declared.faults.Fault.{Fault}
 use Rattle.frames.specs.declared.faults.Fault.TheVariants.{UnknownKind, UnknownConnection}
-use Rattle.frames.specs.declared.reading.Reading.{Reading}
 use Rattle.frames.specs.declared.reading.Reading.TheVariants.{More, Refused, Whole}
 use Rattle.frames.specs.Events.{Arrival, Good, connections, encode, event_of}
 use Rattle.frames.specs.Frames.{Frame, GoodFrame, frame_bytes, frame_of, out_bytes}

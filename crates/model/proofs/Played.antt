@@ -1,7 +1,7 @@
 -- Events in the order in which they happen make the world of their reverse.
 use mathlib.Core.Path.{◌≡◌, refl}
 use mathlib.Core.List.{List, [], ◌∷◌, reverse_aux}
-use Rattle.model.specs.World.{Setting, Event, start, world, played}
+use Rattle.model.specs.World.{Setting, Event, world, played}
 use Rattle.model.specs.Cases.{PlayedIsWorld}
 
 pub played_on : (s : Setting) (es before : List Event) → played s (world s before) es ≡ world s (reverse_aux es before)

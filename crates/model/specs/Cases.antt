@@ -12,7 +12,7 @@
 -- Resource 1 does not vary; resource 2 does. Languages 1 and 2 stand for `sv` and `fi`. Text 9 has no validator.
 -- Assumes nothing.
 use Rattle.std.specs.Prelude.{◌≡◌, Bool, true, false, cond, ◌&&◌, not, List, [], ◌∷◌, ◌++◌, reverse, ℕ, suc, ◌+◌, ◌-◌, min, eqb, length, get_or, replicate}
-use Rattle.model.specs.Exchanges.{Read, Write, Validator, NoValidator, Matching, Connection, Idle, Busy, Slot, Empty, Filled}
+use Rattle.model.specs.Exchanges.{Read, Write, NoValidator, Matching, Connection, Idle, Busy, Slot, Empty, Filled}
 use Rattle.model.specs.World.{Setting, Content, Text, Acknowledged, Passed, Lost, Delivery, World, Event, Tick, Change, Forward, Act, Decline, Receive, Lose, Serve, Evict, start, step, world, played}
 
 -- `max-age`, but at most a day, less the age that the answer came with

@@ -1,7 +1,7 @@
 -- The invariant that carries the promise over a run, and the shape of a step that keeps it.
 use Rattle.std.proofs.Common.{◌≡◌, ℕ, ◌<◌, ◌≤◌, Bool, true, false, ◌⊎◌, List, [], ◌∷◌, ◌++◌, get_or, sym, refl, ap, ◌∙◌, subst, inl, inr, ⊎_elim, arith}
 use mathlib.Core.List.{Memᴰ}
-use Rattle.model.specs.Exchanges.{Method, Write, Validator, Matching, Unanswered, Full, NotModified, Done, Exchange, Stored, Connection, Idle, Busy, Slot, Empty, Filled}
+use Rattle.model.specs.Exchanges.{Write, Validator, Matching, Unanswered, Full, NotModified, Done, Exchange, Stored, Idle, Empty, Filled}
 use Rattle.model.specs.World.{Setting, World, Event, Receive, key_of, matched, is_unanswered, step, world}
 use Rattle.model.specs.Promise.{is_in, numbers, On, Ends, Settled, Claims, full, not_modified, Withdraws, Moment, Unwithdrawn, Did}
 use Rattle.promise.proofs.Lists.{bad, clash, not_true, cut-cons, Grows, grows_cut}

@@ -3,7 +3,7 @@ use Rattle.std.proofs.Common.{◌≡◌, ℕ, zero, suc, ◌≤◌, Bool, true, 
 use mathlib.Core.List.{Memᴰ}
 use Rattle.std.proofs.lemmas.Bool.{eqb-true}
 use Rattle.std.proofs.lemmas.Bool.Decides.{nat_tests}
-use Rattle.model.specs.Exchanges.{Method, Read, Write, Validator, Answer, Unanswered, Full, NotModified, Done, Other, Exchange, Stored, Connection, Idle, Busy, Slot, Empty, Filled}
+use Rattle.model.specs.Exchanges.{Method, Read, Write, Answer, Unanswered, Full, NotModified, Done, Other, Exchange, Stored, Connection, Idle, Busy, Slot, Empty, Filled}
 use Rattle.model.specs.World.{Setting, Content, World, Event, Tick, Change, Forward, Act, Decline, Receive, Lose, Serve, Evict, answer_to, is_unanswered, finish, receive, lose, may_serve, serves, serve, request, forwards, forward, acts, act, declines, decline, receive_on, lose_on, connection_count, step, world}
 use Rattle.model.specs.Promise.{is_in, numbers}
 

@@ -5,7 +5,7 @@ use mathlib.Core.List.{Memᴰ}
 use Rattle.std.proofs.lemmas.Bool.Decides.{nat_tests}
 use Rattle.model.specs.Exchanges.{Method, Read, Write, Answer, Unanswered, Full, NotModified, Done, Other, Exchange, Stored, Connection, Idle, Busy, Slot, Empty, Filled}
 use Rattle.model.specs.World.{Setting, Content, Text, Acknowledged, Passed, Lost, Delivery, World, Event, Tick, Change, Forward, Act, Decline, Receive, Lose, Serve, Evict, connection_count, language_of, matched, answer_to, answered, is_unanswered, deliver, receive, lose, may_serve, served, serves, serve, request, forwards, forward, acts, act, declines, decline, receive_on, lose_on, step, world}
-use Rattle.model.specs.Promise.{is_in, numbers, apart, Receipt, receipts, endings, On, Settled, Claims, full, not_modified, Moment, FromOrigin, FromStore, Shown, Answers, Did, Told, IsDelivered, Promise, Promised}
+use Rattle.model.specs.Promise.{is_in, numbers, apart, Receipt, receipts, endings, On, Settled, Claims, full, not_modified, Moment, FromOrigin, FromStore, Shown, Answers, Did, Told, IsDelivered, Promised}
 use Rattle.promise.proofs.Lists.{bad, not_true, ends_of, grows, grows_run}
 use Rattle.promise.proofs.Invariant.{Vouched, Brought, Inv}
 use Rattle.promise.proofs.Steps.{runs, set_on, answer_given}

@@ -1,10 +1,10 @@
 -- Each event makes a step that keeps the invariant; so every run has it.
-use Rattle.std.proofs.Common.{◌≡◌, ℕ, zero, suc, ◌+◌, Bool, true, false, cond, not, ◌&&◌, eqb, ltb, ◌⊎◌, List, [], ◌∷◌, map, get_or, set, sym, refl, ap, ◌∙◌, subst, inl, inr, ⊎_elim, arith}
+use Rattle.std.proofs.Common.{◌≡◌, ℕ, zero, suc, Bool, true, false, cond, not, ◌&&◌, eqb, ltb, ◌⊎◌, List, [], ◌∷◌, map, get_or, set, sym, refl, ap, ◌∙◌, subst, inl, inr, ⊎_elim, arith}
 use mathlib.Core.List.Memᴰ
 use Rattle.std.proofs.lemmas.Bool.{eq-eqb}
 use Rattle.std.proofs.lemmas.Bool.Decides.{nat_tests}
 use Rattle.model.specs.Exchanges.{Method, Read, Write, Validator, NoValidator, Matching, Answer, Unanswered, Full, NotModified, Done, Other, Exchange, Stored, Connection, Idle, Busy, Slot, Empty, Filled}
-use Rattle.model.specs.World.{Setting, Content, Text, Acknowledged, Passed, Lost, World, Event, Tick, Change, Forward, Act, Decline, Receive, Lose, Serve, Evict, connection_count, start, key_of, replaced, matches, matched, answer_to, has_after, answered, outdated, invalidate, of_resource, of_language, of_text, without, holds, is_unanswered, stored_of, store_if, after_full, after_not_modified, finish, receive, lose, may_serve, serves, serve, request, forwards, forward, acts, act, declines, decline, receive_on, lose_on, step, world}
+use Rattle.model.specs.World.{Setting, Content, Text, Acknowledged, Passed, Lost, World, Event, Tick, Change, Forward, Act, Decline, Receive, Lose, Serve, Evict, connection_count, start, key_of, replaced, matches, matched, answer_to, has_after, answered, outdated, invalidate, of_resource, of_language, of_text, without, holds, is_unanswered, stored_of, store_if, finish, receive, lose, may_serve, serves, serve, request, forwards, forward, acts, act, declines, decline, receive_on, lose_on, step, world}
 use Rattle.model.specs.Promise.{is_in, numbers, On, Ends, received, lost, Claims, full, not_modified, Withdraws}
 use Rattle.promise.proofs.Lists.{bad, clash, get_set, get_clear, get-map, get_replicate, is_in-cons, is_in_here, numbers-cons, no_cut, grows}
 use Rattle.promise.proofs.Invariant.{Word, Inv, Like, Back, alike, answers, fresh, Source, whole, renewed, Newly, Old, Next, next_inv}
