@@ -1,14 +1,13 @@
 -- A cache's decisions, in the subject's own words.
-use Rattle.std.proofs.Common.{◌≡◌, ℕ, zero, suc, ◌<◌, Bool, true, false, cond, not, ◌&&◌, ◌||◌, ltb, List, length, get_or, set, is_some, Some, None, Option, sym, refl, ap, ◌∙◌, subst, arith, get_or-set_same}
-use Rattle.std.proofs.lemmas.Bool.Decides.{nat_tests}
+use Rattle.std.proofs.Common.{◌≡◌, ℕ, zero, suc, Bool, true, false, cond, not, ◌&&◌, ◌||◌, ltb, List, length, get_or, is_some, Some, None, Option, sym, refl, ap, ◌∙◌, subst, arith, get_or-set_same}
 use Rattle.store.specs.declared.types.Row.{Row}
-use Rattle.lists.specs.Firsts.{first, found, any}
-use Rattle.store.specs.Slots.{Slot, Empty, Filled, Key, is_for, holds, is_empty, row_of, tag_of}
+use Rattle.lists.specs.Firsts.{found, any}
+use Rattle.store.specs.Slots.{Slot, Empty, is_for, holds, is_empty, row_of, tag_of}
 use Rattle.lists.proofs.Firsts.{found_passes, found_any}
 use Rattle.cache.specs.declared.types.Exchange.{Exchange}
 use Rattle.cache.specs.declared.types.Words.{Words}
 use Rattle.cache.specs.declared.types.Looked.{Looked}
-use Rattle.cache.specs.declared.types.Looked.TheVariants.{Served, Forwarded, Refused}
+use Rattle.cache.specs.declared.types.Looked.TheVariants.{Forwarded, Refused}
 use Rattle.cache.specs.Rules.{State, Ask, turn, may_serve, key_of, free_link, can_forward, begins, forwards, revalidates, serves, reads_at, reads_from, requested}
 use Rattle.cache.specs.Answers.{key_at, is_pinned, is_stale, may_go, is_spent, last_use, older, oldest_to, or_else, room_for, may_store, row_for, put_at, stored}
 use Rattle.cache.specs.Decisions.{servable_row, servable_at, servable, is_served, KeepsOthers, SparesPinned, StoresIt}

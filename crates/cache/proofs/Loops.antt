@@ -1,5 +1,5 @@
 -- The definitions that count to a number, one step further: what a loop does in a turn.
-use Rattle.std.proofs.Common.{◌≡◌, ℕ, ◌+◌, Bool, false, ◌||◌, List, None, Option, sym, refl, ap, ◌∙◌, add-one}
+use Rattle.std.proofs.Common.{◌≡◌, ℕ, ◌+◌, Bool, false, ◌||◌, List, None, Option, refl, ap, ◌∙◌, add-one}
 use Rattle.store.specs.Slots.{Slot, Key}
 use Rattle.cache.specs.declared.types.Link.{Link}
 use Rattle.cache.specs.Rules.{State}

@@ -1,7 +1,6 @@
 -- The place for a new answer is one of the store's.
 use Rattle.std.proofs.Common.{◌≡◌, ℕ, zero, suc, ◌<◌, Bool, true, false, cond, ◌&&◌, ltb, List, length, get_or, Some, None, Option, sym, refl, ap, ◌∙◌, arith}
-use Rattle.std.proofs.lemmas.Bool.Decides.{nat_tests}
-use Rattle.lists.specs.Firsts.{first, found}
+use Rattle.lists.specs.Firsts.{found}
 use Rattle.store.specs.Slots.{Empty, holds, is_for, is_empty}
 use Rattle.lists.proofs.Firsts.{found_passes}
 use Rattle.cache.specs.declared.types.Exchange.{Exchange}

@@ -22,7 +22,7 @@ use Rattle.play.specs.declared.types.Given.{Given}
 use Rattle.play.specs.declared.types.Latest.{Latest}
 use Rattle.play.specs.declared.types.Latest.TheVariants.{Never, Until, Still}
 use Rattle.play.specs.declared.types.Verdict.{Verdict}
-use Rattle.play.specs.declared.types.Verdict.TheVariants.{AsPromised, NeverSo, NotSince, TooOld, BeforeWrite, NotShared, OtherClient}
+use Rattle.play.specs.declared.types.Verdict.TheVariants.{AsPromised, NeverSo, NotSince, TooOld, BeforeWrite, NotShared}
 use Rattle.play.specs.declared.types.Judged.{Judged}
 
 -- It was so until another text came.

@@ -10,7 +10,7 @@
 --   connection_of  a connection, from 0 to 7
 --
 -- Assumes nothing.
-use Rattle.std.specs.Prelude.{◌≡◌, ℕ, ◌+◌, ◌-◌, ◌^◌, min, Bool, true, false, cond, not, ◌||◌, List, Some, None, Ok, Err, Option, Result, nat_lt}
+use Rattle.std.specs.Prelude.{◌≡◌, ℕ, ◌+◌, ◌-◌, ◌^◌, min, Bool, true, false, cond, not, ◌||◌, Some, None, Ok, Err, Option, Result, nat_lt}
 use Rattle.cache.specs.declared.types.Words.{Words}
 use Rattle.play.specs.declared.types.Counts.{Counts}
 use Rattle.play.specs.declared.types.Judged.{Judged}

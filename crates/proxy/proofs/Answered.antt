@@ -1,13 +1,13 @@
 -- Each client is answered once from one end to the next.
-use Rattle.std.proofs.Common.{◌≡◌, ℕ, ◌<◌, ◌≤◌, Bool, true, false, cond, not, ◌&&◌, ◌||◌, eqb, ltb, ◌≢◌, List, [], ◌∷◌, ◌++◌, length, get_or, set, replicate, sym, refl, ap, ◌∙◌, subst, ⊎_elim, append_assoc, arith, length-set}
+use Rattle.std.proofs.Common.{◌≡◌, ℕ, ◌<◌, Bool, true, false, cond, not, ◌&&◌, ◌||◌, eqb, ltb, ◌≢◌, List, [], ◌∷◌, ◌++◌, length, get_or, sym, refl, ap, ◌∙◌, subst, ⊎_elim, arith, length-set}
 use lib.ListN.{length-replicate}
 use Rattle.std.proofs.lemmas.List.{get_or-set_same, get_or-set_other, get_or-replicate}
 use Rattle.std.proofs.lemmas.Bool.{cases_eq}
 use Rattle.std.proofs.lemmas.Bool.Decides.{nat_tests}
 use Rattle.frames.specs.Events.{Arrival, FromClient, FromOrigin, Broke, Ticked, Gone}
-use Rattle.frames.specs.Frames.{Frame, ToClient, ToOrigin, CloseClient, Open, Close, NotTaken}
-use Rattle.proxy.specs.Steps.{State, Turn, start, still, marked, refuse, refusal, is_open, from_client, does}
-use Rattle.proxy.specs.Runs.{before, play, sends, ends, sent, ended, spoken_on, is_for, about, AnsweredOnce, Unasked, Refusing, AllRefusing, OnlyClients}
+use Rattle.frames.specs.Frames.{Frame}
+use Rattle.proxy.specs.Steps.{State, start, still, marked, refuse, refusal, is_open, from_client, does}
+use Rattle.proxy.specs.Runs.{play, sends, ends, sent, ended, spoken_on, is_for, about, AnsweredOnce, Unasked, AllRefusing, OnlyClients}
 
 same_number : (c : ℕ) → eqb c c ≡ true
 same_number c = grind (arith, nat_tests)

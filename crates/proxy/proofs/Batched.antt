@@ -1,5 +1,5 @@
 -- All the events in some bytes, step by step.
-use Rattle.std.proofs.Common.{◌≡◌, ℕ, zero, suc, ◌+◌, ◌-◌, ◌<◌, ◌≤◌, Bool, true, false, cond, List, [], ◌∷◌, ◌++◌, length, drop, sym, refl, ap, ◌∙◌, subst, append_assoc, add-zero, add_assoc, arith}
+use Rattle.std.proofs.Common.{◌≡◌, ℕ, zero, suc, ◌+◌, ◌<◌, ◌≤◌, Bool, true, false, cond, List, [], ◌∷◌, ◌++◌, length, drop, sym, refl, ap, ◌∙◌, append_assoc, add-zero, add_assoc, arith}
 use Rattle.std.proofs.lemmas.List.{length-drop, drop-drop}
 use Rattle.frames.specs.declared.reading.Reading.{Reading}
 use Rattle.frames.specs.declared.reading.Reading.TheVariants as reading
@@ -11,8 +11,7 @@ use Rattle.proxy.specs.declared.steps.Halt.{Halt}
 use Rattle.proxy.specs.declared.steps.Halt.TheVariants as halt
 use Rattle.proxy.specs.declared.steps.Step.{Step}
 use Rattle.proxy.specs.declared.steps.Step.TheVariants.{Took, Halted}
-use Rattle.proxy.specs.declared.steps.Taken.{Taken}
-use Rattle.proxy.specs.Steps.{State, Turn, Outcome, still, halted, handled, exhausted, step_on, step_of}
+use Rattle.proxy.specs.Steps.{State, Outcome, halted, exhausted, step_on, step_of}
 use Rattle.proxy.specs.Batches.{Batch, ahead, next, take_on, take_all}
 use Rattle.proxy.proofs.Stepped.{step_by}
 

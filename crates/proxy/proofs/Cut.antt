@@ -1,5 +1,5 @@
 -- In whatever pieces bytes come, the same comes of them; and it is what their events bring.
-use Rattle.std.proofs.Common.{◌≡◌, ℕ, zero, suc, ◌+◌, ◌<◌, ◌≤◌, Bool, true, false, cond, List, [], ◌∷◌, ◌++◌, length, drop, sym, refl, ap, ◌∙◌, append_assoc, append-nil, arith}
+use Rattle.std.proofs.Common.{◌≡◌, ℕ, zero, suc, ◌+◌, ◌≤◌, Bool, true, false, cond, List, [], ◌∷◌, ◌++◌, length, drop, sym, refl, ap, ◌∙◌, append_assoc, append-nil, arith}
 use Rattle.std.proofs.lemmas.List.{length-drop, drop-drop, drop-append-le}
 use Rattle.frames.specs.declared.faults.Fault.{Fault}
 use Rattle.frames.specs.declared.reading.Reading.{Reading}
@@ -11,9 +11,8 @@ use Rattle.frames.proofs.Back.{event_within}
 use Rattle.frames.proofs.Settled.{settles}
 use Rattle.proxy.specs.declared.steps.Halt.{Halt}
 use Rattle.proxy.specs.declared.steps.Halt.TheVariants as halt
-use Rattle.proxy.specs.declared.steps.Step.{Step}
 use Rattle.proxy.specs.declared.steps.Step.TheVariants.{Took, Halted}
-use Rattle.proxy.specs.Steps.{State, Turn, Outcome, still, does, exhausted, step_on, step_of}
+use Rattle.proxy.specs.Steps.{State, Outcome, still, does, exhausted, step_on}
 use Rattle.proxy.specs.Batches.{Batch, ahead, next, take_on, take_all, nothing, by_halt, go_on, pieced, PiecesAlike}
 use Rattle.proxy.specs.Runs.{before, play, TakesEvents}
 use Rattle.proxy.proofs.Stepped.{step_by}

@@ -12,7 +12,7 @@
 --   PiecesAlike  — in whatever pieces bytes come, the same comes of them
 --
 -- Assumes nothing.
-use Rattle.std.specs.Prelude.{◌≡◌, ℕ, zero, suc, ◌+◌, ◌≤◌, List, [], ◌∷◌, ◌++◌, length, drop}
+use Rattle.std.specs.Prelude.{◌≡◌, ℕ, zero, suc, ◌+◌, List, [], ◌∷◌, ◌++◌, length, drop}
 use Rattle.frames.specs.Frames.{Frame}
 use Rattle.frames.specs.Streams.{joined}
 use Rattle.proxy.specs.declared.steps.Halt.{Halt}

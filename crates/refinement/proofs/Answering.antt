@@ -1,28 +1,28 @@
 -- An answer, and the loss of a connection: the cache goes on to stand for the world.
-use Rattle.std.proofs.Common.{◌≡◌, ℕ, zero, suc, ◌+◌, ◌<◌, ◌≤◌, Bool, true, false, cond, not, ◌&&◌, ◌||◌, eqb, ltb, ◌⊎◌, List, [], ◌∷◌, ◌++◌, map, length, get_or, set, is_some, Some, None, Option, unwrap_or, sym, refl, ap, ◌∙◌, subst, inl, inr, ⊎_elim, arith, length-set}
+use Rattle.std.proofs.Common.{◌≡◌, ℕ, suc, ◌<◌, ◌≤◌, Bool, true, false, cond, not, ◌&&◌, ltb, List, [], ◌∷◌, map, length, get_or, set, is_some, Some, None, Option, unwrap_or, sym, refl, ap, ◌∙◌, subst, arith, length-set}
 use lib.ListN.{length-map}
 use Rattle.std.proofs.lemmas.List.{get_or_past}
 use Rattle.std.proofs.lemmas.Bool.{le-ltb}
 use Rattle.std.proofs.lemmas.Bool.Decides.{nat_tests}
 use Rattle.std.specs.Str.{bytes_eq}
 use Rattle.store.specs.declared.types.Row.{Row}
-use Rattle.lists.specs.Firsts.{first, found, any}
-use Rattle.store.specs.Slots.{Response, Slot, Empty, Filled, Key, no_key, same_bool, tag_is, is_for, of_path, is_tagged, is_asked_for, is_asked, otherwise, holds, without, with_row, row_of}
+use Rattle.lists.specs.Firsts.{first, any}
+use Rattle.store.specs.Slots.{Response, Slot, Empty, Filled, no_key, same_bool, tag_is, is_for, of_path, is_tagged, is_asked_for, is_asked, otherwise, holds, without, with_row, row_of}
 use Rattle.lists.proofs.Firsts.{first_later, first_none}
 use Rattle.cache.specs.declared.types.Words.{Words}
 use Rattle.cache.specs.declared.types.Exchange.{Exchange}
 use Rattle.cache.specs.declared.types.Link.{Link}
 use Rattle.cache.specs.declared.types.Link.TheVariants.{Idle, Busy}
 use Rattle.cache.specs.declared.types.Outcome.{Outcome}
-use Rattle.cache.specs.declared.types.Outcome.TheVariants.{Nobody, Passed, Held, Fault, Lost}
-use Rattle.cache.specs.Rules.{State, Turn, turn, with_slots, with_links}
-use Rattle.cache.specs.Answers.{Reply, Full, NotModified, Done, Other, key_at, ended_at, marked_to, settled, may_store, room_for, row_for, put_at, stored, withdrawn, agreed, full, renewed_row, renewed_at, renewed_for, renewed, not_modified, given_up, faulty, same_for, same_answered, read_answered, write_answered, answered_on, received, lost_on, lost}
+use Rattle.cache.specs.declared.types.Outcome.TheVariants.{Nobody, Passed, Held}
+use Rattle.cache.specs.Rules.{State, Turn, turn, with_slots}
+use Rattle.cache.specs.Answers.{Reply, Full, NotModified, Done, Other, key_at, ended_at, marked_to, settled, may_store, room_for, row_for, put_at, stored, withdrawn, agreed, full, renewed_row, renewed_at, renewed, not_modified, given_up, faulty, same_for, read_answered, write_answered, answered_on, received, lost_on}
 use Rattle.model.specs.Exchanges as model
 use Rattle.model.specs.World as world
 use Rattle.model.specs.Promise.{On}
 use Rattle.refinement.specs.Numbers.{number_of, text_of}
 use Rattle.refinement.specs.Stands.{setting_of, key_language, validator_for, validator_of, life_of, language_in, stored_of, slot_of, Good, AllGood, is_write, Same, Shows, Stands, HonestFull, Honest}
-use Rattle.refinement.specs.Steps.{room_at, place_for, asks_there, stores_at, place_at, outcome_events, answer_events, content_of, delivery_of, outcome_gives, lost_events, lost_gives, StepSo, suits, has_validator, HonestOn, AnswerSo, LoseSo}
+use Rattle.refinement.specs.Steps.{room_at, place_for, asks_there, outcome_events, answer_events, delivery_of, outcome_gives, lost_events, lost_gives, StepSo, suits, has_validator, HonestOn, AnswerSo, LoseSo}
 use Rattle.promise.proofs.Lists.{bad, get-map}
 use Rattle.refinement.proofs.Numbered.{bytes_same, even_tagged, odd_untagged}
 use Rattle.refinement.proofs.Slots.{get_slot, set_slot, map-without, good_without, good_at, good-set, of_path_lem, is_for_lem, for_resource, for_key, is_tagged_lem}

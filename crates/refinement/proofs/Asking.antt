@@ -1,21 +1,20 @@
 -- A tick, what the origin does, and a client's request: the cache goes on to stand for the world.
-use Rattle.std.proofs.Common.{◌≡◌, ℕ, zero, suc, ◌+◌, ◌-◌, ◌^◌, ◌<◌, ◌≤◌, Bool, true, false, cond, ◌&&◌, eqb, ltb, leb, ◌≢◌, ◌⊎◌, List, [], ◌∷◌, ◌++◌, map, length, get_or, set, is_some, Some, None, Option, sym, refl, ap, ◌∙◌, subst, inl, inr, ⊎_elim, arith, length-set, get_or-set_other, get_or-set_same}
+use Rattle.std.proofs.Common.{◌≡◌, ℕ, zero, suc, ◌+◌, ◌<◌, Bool, true, false, cond, ◌&&◌, eqb, ltb, leb, ◌≢◌, List, [], ◌∷◌, map, length, get_or, set, is_some, Some, None, Option, sym, refl, ap, ◌∙◌, subst, ⊎_elim, arith, length-set, get_or-set_other, get_or-set_same}
 use Rattle.std.proofs.lemmas.Bool.{lt-ltb}
 use Rattle.std.proofs.lemmas.Bool.Decides.{nat_tests}
-use Rattle.store.specs.declared.types.Row.{Row}
-use Rattle.lists.specs.Firsts.{first, found}
+use Rattle.lists.specs.Firsts.{found}
 use Rattle.store.specs.Slots.{Response, Slot, Empty, Filled, Key, no_key, is_for, holds, with_row, row_of, tag_of, body_of}
 use Rattle.lists.proofs.Firsts.{first_passes, found_passes}
 use Rattle.cache.specs.declared.types.Link.{Link}
 use Rattle.cache.specs.declared.types.Link.TheVariants.{Idle, Busy}
 use Rattle.cache.specs.declared.types.Looked.{Looked}
-use Rattle.cache.specs.declared.types.Looked.TheVariants.{Served, Forwarded, Refused}
-use Rattle.cache.specs.Rules.{State, Ask, Turn, turn, with_slots, can_tick, ticked, may_serve, key_of, is_idle, free_link, can_forward, begun, begins, forwards, asks_same, revalidates, used_at, serves, serves_unless, reads_at, reads_from, requested}
+use Rattle.cache.specs.declared.types.Looked.TheVariants.{Forwarded, Refused}
+use Rattle.cache.specs.Rules.{State, Ask, Turn, turn, can_tick, may_serve, key_of, is_idle, free_link, can_forward, begun, begins, forwards, asks_same, revalidates, used_at, serves, serves_unless, reads_at, reads_from}
 use Rattle.model.specs.Exchanges as model
 use Rattle.model.specs.World as world
 use Rattle.refinement.specs.Numbers.{number_of, text_of}
 use Rattle.refinement.specs.Stands.{key_language, validator_of, language_in, stored_of, slot_of, Good, AllGood, is_write, Same, Shows, Stands}
-use Rattle.refinement.specs.Steps.{tick_events, method_of, looked_events, looked_gives, StepSo, TickSo, AskSo, OriginEvent, changes, acts, declines, OriginSo}
+use Rattle.refinement.specs.Steps.{method_of, looked_events, looked_gives, StepSo, TickSo, AskSo, changes, acts, declines, OriginSo}
 use Rattle.promise.proofs.Lists.{bad}
 use Rattle.refinement.proofs.Slots.{get_slot, set_slot, set_same, good_at, good-set, is_for_lem, for_resource, for_key, may_serve_lem}
 use Rattle.refinement.proofs.Links.{same_or_not, shows_begun}

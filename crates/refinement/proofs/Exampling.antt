@@ -1,8 +1,8 @@
 -- The example, by computing.
-use Rattle.std.proofs.Common.{◌≡◌, ℕ, true, false, cond, List, [], ◌∷◌, Some, refl, subst}
+use Rattle.std.proofs.Common.{◌≡◌, ℕ, false, cond, List, [], ◌∷◌, Some, refl, subst}
 use Rattle.std.specs.Str.{bytes_eq}
 use Rattle.cache.specs.Rules.{begins}
-use Rattle.cache.specs.Answers.{Reply, Full, NotModified, Done, room_for, full, marked_to, pinned_to, oldest_to}
+use Rattle.cache.specs.Answers.{Full, NotModified, Done, room_for, full, marked_to, pinned_to, oldest_to}
 use Rattle.lists.specs.Firsts.{first}
 use Rattle.model.specs.Exchanges as model
 use Rattle.model.specs.World as world

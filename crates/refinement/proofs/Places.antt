@@ -1,5 +1,5 @@
 -- There stays one place for a path and language, whatever happens.
-use Rattle.std.proofs.Common.{◌≡◌, ℕ, zero, suc, ◌<◌, ◌≤◌, Bool, true, false, cond, not, ◌&&◌, ◌||◌, ltb, ◌⊎◌, List, [], ◌∷◌, map, length, get_or, set, is_some, Some, None, Decides, Option, sym, refl, ap, ◌∙◌, subst, inl, inr, ⊎_elim, arith, rules, ltb-false, lt-ltb}
+use Rattle.std.proofs.Common.{◌≡◌, ℕ, zero, suc, ◌<◌, ◌≤◌, Bool, true, false, cond, not, ◌&&◌, ◌||◌, ltb, ◌⊎◌, List, [], ◌∷◌, map, length, get_or, set, is_some, Some, None, Option, sym, refl, ap, ◌∙◌, subst, inl, inr, arith, rules, ltb-false, lt-ltb}
 use Rattle.std.proofs.lemmas.Slice.Eq.{bytes_eq-Decides}
 use Rattle.std.specs.Str.{bytes_eq}
 use Rattle.store.specs.declared.types.Row.{Row}
@@ -14,7 +14,7 @@ use Rattle.cache.specs.declared.types.Link.TheVariants.{Idle, Busy}
 use Rattle.cache.specs.declared.types.Outcome.TheVariants.{Nobody}
 use Rattle.cache.specs.declared.types.Words.{Words}
 use Rattle.cache.specs.Rules.{State, Ask, Turn, turn, may_serve, key_of, can_forward, begins, forwards, revalidates, used_at, serves, reads_at, reads_from, requested}
-use Rattle.cache.specs.Answers.{Reply, Full, NotModified, Done, Other, key_at, ended_at, settled, may_store, is_spent, oldest_to, or_else, room_for, row_for, put_at, stored, withdrawn, agreed, full_after, full, renewed_row, renewed_at, renewed, not_modified, given_up, faulty, same_for, read_answered, write_answered, answered_on, received, lost_on, lost}
+use Rattle.cache.specs.Answers.{Reply, Full, NotModified, Done, Other, key_at, ended_at, settled, may_store, is_spent, oldest_to, or_else, room_for, row_for, put_at, stored, withdrawn, agreed, full, renewed_row, renewed_at, not_modified, given_up, faulty, same_for, read_answered, write_answered, answered_on, received, lost_on, lost}
 use Rattle.cache.specs.Decisions.{Rivals, OnePlace}
 use Rattle.cache.proofs.Names.{Fits, Knows}
 

@@ -1,8 +1,6 @@
 -- Every honest run keeps the promise.
-use Rattle.std.proofs.Common.{◌≡◌, ℕ, zero, suc, ◌+◌, Bool, true, false, cond, ◌&&◌, ltb, ◌≢◌, List, [], ◌∷◌, ◌++◌, map, length, get_or, set, replicate, sym, refl, ap, ◌∙◌, subst, inl, inr, ⊎_elim, length-set, get_or-set_other}
-use mathlib.Core.List.{reverse_aux}
-use lib.ListN.{length-replicate}
-use Rattle.store.specs.Slots.{Response, Slot, Empty, Filled, Key, no_key}
+use Rattle.std.proofs.Common.{◌≡◌, ℕ, zero, suc, ◌+◌, Bool, true, false, cond, ◌&&◌, ltb, List, [], ◌∷◌, ◌++◌, map, get_or, set, replicate, sym, refl, ap, ◌∙◌, subst, ⊎_elim, length-set, get_or-set_other}
+use Rattle.store.specs.Slots.{Response, Empty, Filled, Key, no_key}
 use Rattle.cache.specs.declared.types.Link.{Link}
 use Rattle.cache.specs.declared.types.Link.TheVariants.{Idle, Busy}
 use Rattle.cache.specs.Rules.{State, can_tick, ticked, is_idle, released}
@@ -14,7 +12,7 @@ use Rattle.model.proofs.Played.{played_on}
 use Rattle.promise.proofs.Promised.{promised}
 use Rattle.refinement.specs.Stands.{slot_of, AllGood, Shows, Stands}
 use Rattle.refinement.specs.Steps.{StepSo, changes, acts, declines}
-use Rattle.refinement.specs.Runs.{Happening, Ticks, Asks, Answers, Loses, Releases, Changes, Acts, Declines, Run, Terms, setting_in, fresh, goes, run, HonestNow, Honest, Kept, CacheKeeps, CacheHasOnePlace}
+use Rattle.refinement.specs.Runs.{Happening, Ticks, Asks, Answers, Loses, Releases, Changes, Acts, Declines, Run, Terms, setting_in, fresh, goes, run, Honest, CacheKeeps, CacheHasOnePlace}
 use Rattle.promise.proofs.Lists.{bad, get_replicate}
 use Rattle.refinement.proofs.Links.{same_or_not}
 use Rattle.refinement.proofs.Asking.{tick_so, origin_so, ask_so}

@@ -1,8 +1,7 @@
 -- What is done to the slots of a store is done to the slots of the model.
-use Rattle.std.proofs.Common.{◌≡◌, ℕ, zero, suc, ◌+◌, ◌<◌, ◌≤◌, Bool, true, false, cond, not, ◌&&◌, ◌||◌, eqb, ltb, leb, List, [], ◌∷◌, map, get_or, set, Some, None, Option, sym, refl, ap, ◌∙◌, arith}
+use Rattle.std.proofs.Common.{◌≡◌, ℕ, zero, suc, ◌+◌, Bool, true, false, cond, not, ◌&&◌, ◌||◌, eqb, ltb, leb, List, [], ◌∷◌, map, get_or, set, Some, sym, refl, ap, ◌∙◌, arith}
 use Rattle.std.proofs.lemmas.Bool.Decides.{nat_tests}
 use Rattle.std.specs.Str.{bytes_eq}
-use Rattle.store.specs.declared.types.Row.{Row}
 use Rattle.store.specs.Slots.{Response, Slot, Empty, Filled, Key, is_for, of_path, is_tagged, tag_is, without}
 use Rattle.cache.specs.Rules.{may_serve}
 use Rattle.model.specs.Exchanges as model

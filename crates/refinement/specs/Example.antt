@@ -8,7 +8,7 @@
 --   Exampled      the run is honest; what clients were given; and that nothing is stored after it
 --
 -- Assumes nothing.
-use Rattle.std.specs.Prelude.{◌≡◌, ℕ, Bool, true, false, cond, List, [], ◌∷◌, reverse, replicate, Some, None, Option}
+use Rattle.std.specs.Prelude.{◌≡◌, ℕ, true, false, cond, List, [], ◌∷◌, reverse, replicate, Some, None}
 use Rattle.std.specs.Str.{bytes_eq}
 use Rattle.store.specs.Slots.{Empty}
 use Rattle.cache.specs.declared.types.Words.{Words}

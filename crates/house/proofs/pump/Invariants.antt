@@ -1,5 +1,5 @@
 -- What is left is always less than one frame, so there is room for more.
-use Rattle.std.proofs.Common.{◌≡◌, ◌<◌, length}
+use Rattle.std.proofs.Common.{◌<◌, length}
 use Rattle.house.proofs.pump.Given as goal
 
 abbrev pub invariant-loop : goal.invariant-loop

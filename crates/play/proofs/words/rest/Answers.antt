@@ -1,5 +1,4 @@
 -- A part up to the end is the rest.
-use Rattle.std.proofs.Common.{rules}
 use Rattle.std.proofs.lemmas.List.{take_rest}
 use Rattle.play.proofs.words.rest.Goals as goal
 

@@ -1,6 +1,6 @@
 -- By the laws of the first that passes.
 use Rattle.std.proofs.Common.{rules}
-use Rattle.lists.proofs.Firsts.{sought_more, found_here, found_none}
+use Rattle.lists.proofs.Firsts.{sought_more, found_here}
 use Rattle.cache.proofs.types.Cache.find_spent.Goals as goal
 
 pub places-preserved : goal.places-preserved
