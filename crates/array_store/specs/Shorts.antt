@@ -1,10 +1,10 @@
 -- Short byte strings by value.
 --
---   short_of       the bytes that a short byte string stands for; a length past the end counts as all of them
---   is_short       there is room for these bytes
---   is_short_tag    there is room for this validator, if there is one
---   is_known       there is room for a key with this path, language and validator
---   is_fitting     there is room for a response with this validator and body
+--   short_of      the bytes that a short byte string stands for; a length past the end counts as all of them
+--   is_short      there is room for these bytes
+--   is_short_tag  there is room for this validator, if there is one
+--   is_known      there is room for a key with this path, language and validator
+--   is_fitting    there is room for a response with this validator and body
 --
 -- Assumes nothing.
 use Rattle.std.specs.Prelude.{ℕ, min, Bool, true, ◌&&◌, List, length, take, Some, None, Option, nat_le}

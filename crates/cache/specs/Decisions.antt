@@ -2,7 +2,7 @@
 --
 --   servable      the store may serve this request now: it reads, does not want the origin's answer, and what is stored
 --                 for it may be shown
---   is_served      a request was served from the store
+--   is_served     a request was served from the store
 --   KeepsOthers   nothing is given up while there is room: while a place is free, a new answer takes a free one or the
 --                 place of an older answer to the same request
 --   SparesPinned  what an exchange under way asks with is never given up for another answer

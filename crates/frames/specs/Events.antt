@@ -2,12 +2,12 @@
 --
 --   Arrival      — an event: bytes of a client or of the origin, a broken connection, a tick, a client's end
 --   number       — two bytes as a number, high byte first
---   number_at     — the number in the two bytes from a place on
---   when_there    — an event that takes so many bytes: it is whole once they are there
---   client_of ..  — how the bytes of a frame of each kind are read
---   by_kind       — how bytes are read whose first byte is this kind
---   front_of      — how any bytes are read
---   event_of      — the same, as the name by which it is cited
+--   number_at    — the number in the two bytes from a place on
+--   when_there   — an event that takes so many bytes: it is whole once they are there
+--   client_of .. — how the bytes of a frame of each kind are read
+--   by_kind      — how bytes are read whose first byte is this kind
+--   front_of     — how any bytes are read
+--   event_of     — the same, as the name by which it is cited
 --   encode       — the bytes that say an event
 --   Good         — the events that have a frame: numbers of two bytes, a connection that there is
 --

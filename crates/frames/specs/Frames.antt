@@ -2,13 +2,13 @@
 --
 --   Frame        — a frame: bytes for a client or for the origin, a client or a connection to close, one to open,
 --                  or how many last bytes of an event were not taken
---   frame_bytes   — its bytes
+--   frame_bytes  — its bytes
 --   longest      — the most bytes that one frame carries
 --   short        — whether so many bytes go into one frame
 --   written      — the bytes of a frame that carries bytes, or none where they are too many for one
 --   answer       — what its writer answers
---   frame_of      — the frame that bytes begin with, and how many bytes it takes
---   out_bytes     — the bytes of frames one after the other
+--   frame_of     — the frame that bytes begin with, and how many bytes it takes
+--   out_bytes    — the bytes of frames one after the other
 --   GoodFrame    — the frames that go out: numbers that fit their bytes
 --
 -- Assumes nothing.

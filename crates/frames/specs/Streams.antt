@@ -2,10 +2,10 @@
 --
 --   End          — how the bytes end: with the beginning of a frame that is not whole yet, or refused at a fault
 --   Stream       — the events that were read, and the end
---   events_on     — at most so many events of the bytes
---   events_of     — all of them: an event takes a byte at least, so their number is at most the bytes' own
+--   events_on    — at most so many events of the bytes
+--   events_of    — all of them: an event takes a byte at least, so their number is at most the bytes' own
 --   feed         — a piece more behind what was left; after a refusal nothing is read any more
---   in_pieces     — pieces one after the other
+--   in_pieces    — pieces one after the other
 --
 -- Assumes nothing.
 use Rattle.std.specs.Prelude.{ℕ, zero, suc, List, [], ◌∷◌, ◌++◌, length, drop}

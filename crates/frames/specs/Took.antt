@@ -2,8 +2,8 @@
 --
 --   grown        — memory that grows: unless it failed, the bytes stand behind those that were there
 --   filled       — lent memory: the same of the part that is filled
---   ..-nothing   — no bytes are taken where nothing changes
---   ..-onward    — bytes taken one after the other are taken together
+--   .._nothing   — no bytes are taken where nothing changes
+--   .._onward    — bytes taken one after the other are taken together
 --
 -- Assumes nothing.
 use Rattle.std.specs.Prelude.{◌≡◌, ℕ, false, List, [], ◌++◌, take, vec_items}

@@ -1,6 +1,6 @@
 -- What is left of a piece, and that it leaves room for the next one.
 --
---   Next-within  — what is left is less than the largest frame, and no more than was there
+--   NextWithin   — what is left is less than the largest frame, and no more than was there
 --   Carried      — what is left are the last bytes that were there, and they stand at the front
 --
 -- Assumes nothing.
@@ -9,10 +9,10 @@ use Rattle.frames.specs.Views.{largest}
 use Rattle.house.specs.declared.report.Next.{Next}
 use Rattle.house.specs.declared.report.Next.TheVariants.{Rest, Refused, ClockExhausted}
 
-abbrev pub Next-within : Next → ℕ → Type 0
-Next-within (Rest n) m = (n < largest) × (n ≤ m)
-Next-within (Refused f n) m = Unit {0}
-Next-within (ClockExhausted n) m = Unit {0}
+abbrev pub NextWithin : Next → ℕ → Type 0
+NextWithin (Rest n) m = (n < largest) × (n ≤ m)
+NextWithin (Refused f n) m = Unit {0}
+NextWithin (ClockExhausted n) m = Unit {0}
 
 -- of m bytes
 abbrev pub Carried : Next → ℕ → List ℕ → List ℕ → Type 0

@@ -4,7 +4,7 @@
 ghost use Rattle.std.specs.Prelude.{◌≡◌, ◌+◌, ◌<◌, ◌≤◌, length, take, IfOk};
 ghost use Rattle.proxy.specs.Batches.{take_all};
 ghost use Rattle.proxy.specs.Steps.{view};
-ghost use Rattle.house.specs.Room.{Carried, Next-within};
+ghost use Rattle.house.specs.Room.{Carried, NextWithin};
 
 mod buffer;
 mod report;
@@ -89,7 +89,7 @@ fn take_piece(
 ) -> Result<Next, Trouble>
     requires { end ≤ length buffer.old }
     ensures state { view proxy.new ≡ (take_all (take end buffer.old) (view proxy.old)).turn.after }
-    ensures rest { IfOk result (λ n. Next-within n end) }
+    ensures rest { IfOk result (λ n. NextWithin n end) }
     ensures front { IfOk result (λ n. Carried n end buffer.old buffer.new) }
 {
     let taken = proxy.take_all(&buffer[0..end], out);

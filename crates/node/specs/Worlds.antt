@@ -1,10 +1,10 @@
 -- What a cache by value stands for, and what its calls are in every world that it stands for.
 --
---   state_in       what a node remembers
+--   state_in      what a node remembers
 --   begun         what a new node remembers: 64 places, all free
---   held_at        what is held for a connection
---   stored_at      1 where a place holds a response, 0 where it is free
---   stored_before  how many of the first places hold a response
+--   held_at       what is held for a connection
+--   stored_at     1 where a place holds a response, 0 where it is free
+--   stored_before how many of the first places hold a response
 --   Ticked, Asked, Answered, Lost   from one state to another: for every world that the first stands for, the second
 --                 stands for the stepped world, and what the world delivers is what the clients are given
 --   NodeKeeps     any run of calls of a node, from a new one on, is as promised

@@ -1,9 +1,9 @@
 -- The dice of a random play.
 --
---   next_state     the state after a roll
+--   next_state    the state after a roll
 --   rolled        what is rolled at a state, with so many sides
---   label_of       five digits of a number
---   rolls_at       what a command is chosen by: the first four say what the origin has for each of the four paths
+--   label_of      five digits of a number
+--   rolls_at      what a command is chosen by: the first four say what the origin has for each of the four paths
 --
 -- Assumes nothing.
 use Rattle.std.specs.Prelude.{ℕ, ◌+◌, ◌*◌, ◌/◌, ◌%◌, ◌^◌, cond, List, [], ◌∷◌, ◌==◌, nat_lt}

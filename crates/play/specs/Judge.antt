@@ -1,16 +1,16 @@
 -- The judge's rules, over the history of a run and nothing else: what the origin had, what it answered, which writes were settled.
 --
---   latest_on      the latest moment at which the origin had a text for a resource, from its changes in their order
---   lasts_past     it was so at an event later than this one, or still is
---   ago_of         how many ticks ago that moment is
---   is_fresh       an answer lets a text be shown at this tick: neither private nor `no-cache`, to a request that
+--   latest_on     the latest moment at which the origin had a text for a resource, from its changes in their order
+--   lasts_past    it was so at an event later than this one, or still is
+--   ago_of        how many ticks ago that moment is
+--   is_fresh      an answer lets a text be shown at this tick: neither private nor `no-cache`, to a request that
 --                 allowed storing, and with a lifetime that is not over, counted from the forwarding
---   lifetime_on    the lifetime in the last answer that lets it be shown, 0 if there is none
---   is_undone      a write to the path that was settled before an event, and done after the latest moment
+--   lifetime_on   the lifetime in the last answer that lets it be shown, 0 if there is none
+--   is_undone     a write to the path that was settled before an event, and done after the latest moment
 --   is_withdrawing a private word about what an answer brought, received later than it
---   is_shared      a whole answer, not private, to a request that allowed storing, with no private word since
---   kept_verdict   the verdict on an answer from the store
---   owner_verdict  the verdict on an answer of the origin's
+--   is_shared     a whole answer, not private, to a request that allowed storing, with no private word since
+--   kept_verdict  the verdict on an answer from the store
+--   owner_verdict the verdict on an answer of the origin's
 --
 -- Assumes nothing.
 use Rattle.std.specs.Prelude.{ℕ, ◌-◌, Bool, true, false, cond, not, ◌&&◌, ◌||◌, List, [], ◌∷◌, ◌==◌, nat_le, nat_lt}

@@ -2,15 +2,15 @@
 --
 --   is_blank, is_other   a byte that parts words; any other
 --   isHash        the byte that begins a comment
---   is_odd         a byte that can't be printed
---   cut_word       the first word of a text and what stands behind it; None if there is no word
---   number_of      the number that a word of digits stands for; None for any other word
+--   is_odd        a byte that can't be printed
+--   cut_word      the first word of a text and what stands behind it; None if there is no word
+--   number_of     the number that a word of digits stands for; None for any other word
 --   spelled_verb, spelled_field   how a verb and the name of a setting are written
---   verb_of        the verb of a word; takes_two: it is followed by two words, and not by one
---   field_of       what a setting is about, from its name with `=`; may_stand: it may stand behind this verb
+--   verb_of       the verb of a word; takes_two: it is followed by two words, and not by one
+--   field_of      what a setting is about, from its name with `=`; may_stand: it may stand behind this verb
 --   Said          what is said behind the subject, as bytes; said_of: of settings
---   set_field      what is said, with one more setting
---   settings_on    what is said with at most so many words more
+--   set_field     what is said, with one more setting
+--   settings_on   what is said with at most so many words more
 --   Line          a line, as bytes; line_of: of a command
 --   parsed        what a line means: nothing, a command, or what is wrong with it
 --

@@ -1,13 +1,13 @@
 -- What a game counts, what it says is broken, and what the origin's words mean to a cache.
 --
---   words_of       what the origin says, in the cache's terms: of the lifetime, at most a day, the age is over
+--   words_of      what the origin says, in the cache's terms: of the lifetime, at most a day, the age is over
 --   counted       the counts with one more that happened; `more` stops at the largest number
---   is_kept        a verdict is 'as promised'
---   is_broken      what became of a command was not as promised
---   first_broken   the first that was not as promised
---   of_client      what is judged, if the client that is given it is the one that asked
---   is_given_as     a client is given a body, judged so
---   connection_of  a connection, from 0 to 7
+--   is_kept       a verdict is 'as promised'
+--   is_broken     what became of a command was not as promised
+--   first_broken  the first that was not as promised
+--   of_client     what is judged, if the client that is given it is the one that asked
+--   is_given_as   a client is given a body, judged so
+--   connection_of a connection, from 0 to 7
 --
 -- Assumes nothing.
 use Rattle.std.specs.Prelude.{◌≡◌, ℕ, ◌+◌, ◌-◌, ◌^◌, min, Bool, true, false, cond, not, ◌||◌, Some, None, Ok, Err, Option, Result, nat_lt}

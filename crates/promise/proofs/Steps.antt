@@ -271,13 +271,13 @@ module _ (s : Setting) (es : List Event) (w : World) (inv : Inv s es w) (c : ℕ
   ends_lose d (lost q) = cc
 
   -- an answer that is not private withdraws nothing
-  public-full : (t life : ℕ) → x.answer ≡ Full t life false → {y : ℕ} → Withdraws s x y → ⊥
-  public-full t life q (Withdraws.full l e u) = bad (cc)
-  public-full t life q (Withdraws.not_modified l e) = bad (cc)
+  public_full : (t life : ℕ) → x.answer ≡ Full t life false → {y : ℕ} → Withdraws s x y → ⊥
+  public_full t life q (Withdraws.full l e u) = bad (cc)
+  public_full t life q (Withdraws.not_modified l e) = bad (cc)
 
-  public-same : (life : ℕ) → x.answer ≡ NotModified life false → {y : ℕ} → Withdraws s x y → ⊥
-  public-same life q (Withdraws.full l e u) = bad (cc)
-  public-same life q (Withdraws.not_modified l e) = bad (cc)
+  public_same : (life : ℕ) → x.answer ≡ NotModified life false → {y : ℕ} → Withdraws s x y → ⊥
+  public_same life q (Withdraws.full l e u) = bad (cc)
+  public_same life q (Withdraws.not_modified l e) = bad (cc)
 
   receives_full : (b : Bool) (i t life : ℕ) (private : Bool) → x.answer ≡ Full t life private → Next s (Receive c b i) w (receive b i s c x (Full t life private) w)
   receives_full b i t life true q = go (s.tagged t) refl
@@ -297,7 +297,7 @@ module _ (s : Setting) (es : List Event) (w : World) (inv : Inv s es w) (c : ℕ
       go true u = plain (Receive c b i) _ (Text t) (ends_receive b i) (λ reply e. bad (cc)) (λ j k h. inl (j, (get-without (of_text x.resource (key_of s x) t) w.slots j k h).0))
           (λ j k h b2 i2 q r l z. gone k (get-without (of_text x.resource (key_of s x) t) w.slots j k h).1 r l z)
       go false u = plain (Receive c b i) _ (Text t) (ends_receive b i) (λ reply e. bad (cc)) (λ j k h. inl (j, h)) (λ j k h b2 i2 q r l z. stays k u z)
-  receives_full b i t life false q = plain (Receive c b i) _ (Text t) (ends_receive b i) (λ reply e. bad (cc)) (stores_new b i t life (Text t) w.slots _ refl (λ j k h. (j, h)) (inl q) (λ y. whole life q)) (λ j k h b2 i2 e r l z. public-full t life q z)
+  receives_full b i t life false q = plain (Receive c b i) _ (Text t) (ends_receive b i) (λ reply e. bad (cc)) (stores_new b i t life (Text t) w.slots _ refl (λ j k h. (j, h)) (inl q) (λ y. whole life q)) (λ j k h b2 i2 e r l z. public_full t life q z)
 
   receives_same : (b : Bool) (i life : ℕ) (private : Bool) → x.answer ≡ NotModified life private → Next s (Receive c b i) w (receive b i s c x (NotModified life private) w)
   receives_same b i life true q = plain (Receive c b i) _ (Text (matched x.validator)) (ends_receive b i) (λ reply e. bad (cc)) (λ j k h. inl (j, (get-without (of_language x.resource (key_of s x)) w.slots j k h).0))
@@ -307,7 +307,7 @@ module _ (s : Setting) (es : List Event) (w : World) (inv : Inv s es w) (c : ℕ
       it y k f r l = grind (arith, nat_tests)
   receives_same b i life false q = plain (Receive c b i) _ (Text (matched x.validator)) (ends_receive b i) (λ reply e. bad (cc))
       (stores_new (b && holds (of_text x.resource (key_of s x) (matched x.validator)) (get_or w.slots i Empty)) i (matched x.validator) life (Text (matched x.validator)) w.slots _ refl (λ j k h. (j, h)) (inr (q, (inv.live c x o).validated life false q)) (λ y. place (get_or w.slots i Empty) refl y))
-      (λ j k h b2 i2 e r l z. public-same life q z)
+      (λ j k h b2 i2 e r l z. public_same life q z)
     where
       tests : (k : Stored) (y : ℕ) → (b && (eqb k.resource x.resource && (eqb k.language y && eqb k.text (matched x.validator)))) ≡ true → (k.resource ≡ x.resource) × (k.language ≡ y) × (k.text ≡ matched x.validator)
       tests k y h = (grind (arith, nat_tests), grind (arith, nat_tests), grind (arith, nat_tests))

@@ -3,10 +3,10 @@
 --   Batch        — the state after them, the frames that they bring, how many bytes were taken, and why no more
 --   ahead        — a batch behind events that were taken before it
 --   next         — the events behind one that was taken, or the end
---   take_on       — at most so many events
---   take_all      — all of them: an event takes a byte at least, so their number is at most the bytes' own
+--   take_on      — at most so many events
+--   take_all     — all of them: an event takes a byte at least, so their number is at most the bytes' own
 --   nothing      — a batch with no event
---   go_on         — what the rest brings, behind a batch that ended for want of bytes
+--   go_on        — what the rest brings, behind a batch that ended for want of bytes
 --   pieced       — pieces one after the other, each behind what was left of those before it; after a refusal,
 --                  and once the clock is exhausted, nothing is read any more
 --   PiecesAlike  — in whatever pieces bytes come, the same comes of them

@@ -1,6 +1,6 @@
 -- The proxy's own responses.
 --
---   end_of_line       — CR LF
+--   end_of_line      — CR LF
 --   unavailable_text — there is no connection to the origin
 --   unavailable     — the same, as the name by which it is cited
 --

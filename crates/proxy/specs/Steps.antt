@@ -3,7 +3,7 @@
 --   State        — the clock, and for each client's number a mark: 0, or 1 where the client is closed
 --   view         — the state that a proxy of the code is in
 --   start        — the first state, with so many places for clients
---   is_open       — there is a place for the client's mark, and it is not closed; a client with no place is never answered
+--   is_open      — there is a place for the client's mark, and it is not closed; a client with no place is never answered
 --   Turn         — the state after an event, and the frames that it brings
 --   refusal      — the frames by which a client is refused: 503, and its closing
 --   does         — what an event does: first bytes of a client are refused with 503 and the client is closed;
@@ -11,7 +11,7 @@
 --   exhausted    — the clock can't be counted further
 --   handled      — what an event does, unless the clock is exhausted
 --   Outcome      — what an event does, and what is told of it
---   step_of       — one event from the front of some bytes
+--   step_of      — one event from the front of some bytes
 --   StepWithin   — an event takes some of the bytes that are there, and no others;
 --                  and where more bytes are wanted, there is less than the largest frame
 --

@@ -1,9 +1,9 @@
 -- Byte strings as the numbers of the model.
 --
 --   spread        two numbers as one
---   number_of      a byte string as a number: no two have the same
---   text_of        a body with its validator, if it has one, as the number of a text
---   is_even        the texts that have a validator are the even ones
+--   number_of     a byte string as a number: no two have the same
+--   text_of       a body with its validator, if it has one, as the number of a text
+--   is_even       the texts that have a validator are the even ones
 --
 -- Assumes nothing.
 use Rattle.std.specs.Prelude.{ℕ, zero, suc, ◌+◌, ◌*◌, Bool, true, false, List, [], ◌∷◌, Some, None, Option}

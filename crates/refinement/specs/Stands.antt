@@ -2,10 +2,10 @@
 --
 --   b             the body that the origin gives a validator, by resource and language: an origin gives a validator to
 --                 one body and to no other
---   setting_of     the setting of the model: of which resources the origin says `vary`, and how many places there are
---   key_language   the language under which what is asked for is stored: 0 where the resource does not vary
---   validator_of   what an exchange holds already, as the model has it
---   life_of        the lifetime that an answer says; 0 with `no-cache`
+--   setting_of    the setting of the model: of which resources the origin says `vary`, and how many places there are
+--   key_language  the language under which what is asked for is stored: 0 where the resource does not vary
+--   validator_of  what an exchange holds already, as the model has it
+--   life_of       the lifetime that an answer says; 0 with `no-cache`
 --   stored_of, slot_of   a stored response, and a slot, of the model
 --   Good          of a stored response: it says of `vary` what the origin says, and its body is that of its validator
 --   AllGood       each slot that is filled is good
