@@ -11,7 +11,7 @@ impl Entry {
     pub fn new(path: &[u8], language: &[u8], tag: Option<Short>) -> Entry
         requires path { is_short path.now ≡ true }
         requires language { is_short language.now ≡ true }
-        ensures { key_of result ≡ record { path = path.entry.now; language = language.now; tag = option_map short_of tag } }
+        ensures { key_of result ≡ record { path = path.now; language = language.now; tag = option_map short_of tag } }
     {
         Entry {
             path: Short::new(path),
