@@ -13,15 +13,11 @@ pub fn worked_cases() -> u8
 }
 
 /// The worked cases are of the worlds that the promise speaks of.
-pub fn cases_are_runs() -> bool
+pub fn cases_are_runs()
     ensures { PlayedIsWorld }
-{
-    true
-}
+{}
 
 /// There is a run in which a read from the origin shows an older state than a write that was acknowledged before.
-pub fn read_is_overtaken() -> bool
+pub fn read_is_overtaken()
     ensures { Overtaken }
-{
-    true
-}
+{}

@@ -4,8 +4,6 @@
 ghost use Rattle.model.specs.Promise.{Promised};
 
 /// The promise holds of every run, in every setting.
-pub fn promise_holds() -> bool
+pub fn promise_holds()
     ensures { Promised }
-{
-    true
-}
+{}
