@@ -1,7 +1,9 @@
 -- Laws of the first element that passes a test.
-use Rattle.std.proofs.Common.{◌≡◌, ℕ, zero, suc, ◌+◌, ◌<◌, Bool, true, false, cond, not, ◌||◌, ltb, ltb-false, ◌≤◌, List, [], ◌∷◌, length, get_or, Some, None, refl, arith, add-one}
+use Rattle.std.proofs.Common.{◌≡◌, ℕ, suc, ◌+◌, ◌<◌, ◌≤◌, Bool, true, false, cond, not, ◌||◌, ltb, ltb-true, ltb-false, le-ltb, lt-ltb, List, [], ◌∷◌, length, get_or, Some, None, Option, sym, refl, ap, ◌∙◌, arith}
 use Rattle.std.specs.List.{position_or_len, position, list_any}
 use Rattle.std.proofs.lemmas.List.Quantifiers.{position-Some}
+use Rattle.std.proofs.lemmas.List.Sums.{position_or_len_is}
+use Rattle.std.specs.Prelude.{MatchOption}
 
 pub first_here : {X : Type 0} (p : X → Bool) (x : X) (xs : List X) → p x ≡ true → position_or_len p (x ∷ xs) ≡ 0
 first_here p x xs e = rw e refl
@@ -12,6 +14,26 @@ first_later p x xs e = rw e (omega arith)
 -- what is found is there, and passes
 pub found_passes : {X : Type 0} (p : X → Bool) (xs : List X) (d : X) (i : ℕ) → position p xs ≡ Some i → (i < length xs) × (p (get_or xs i d) ≡ true)
 found_passes p xs d i h = let f = position-Some p xs i d h in (f.0, f.1)
+
+-- where it is found, and where none is
+pub found_at : {X : Type 0} (p : X → Bool) (xs : List X) (i : ℕ) → position p xs ≡ Some i → (i ≡ position_or_len p xs) × (i < length xs)
+found_at p xs i h = go (ltb (position_or_len p xs) (length xs)) refl h
+  where
+    go : (b : Bool) → ltb (position_or_len p xs) (length xs) ≡ b → cond b (Some (position_or_len p xs)) None ≡ Some i → (i ≡ position_or_len p xs) × (i < length xs)
+    go true e q = let l = ltb-true (position_or_len p xs) (length xs) e in let r : position_or_len p xs ≡ i = cc in (omega arith, omega arith)
+    go false e q = absurd (let z : ◌≡◌ {A = ℕ} 0 1 = cc in omega arith)
+
+pub found_past : {X : Type 0} (p : X → Bool) (xs : List X) → position p xs ≡ None → length xs ≤ position_or_len p xs
+found_past p xs h = go (ltb (position_or_len p xs) (length xs)) refl h
+  where
+    go : (b : Bool) → ltb (position_or_len p xs) (length xs) ≡ b → cond b (Some (position_or_len p xs)) None ≡ None → length xs ≤ position_or_len p xs
+    go true e q = absurd (let z : ◌≡◌ {A = ℕ} 0 1 = cc in omega arith)
+    go false e q = ltb-false (position_or_len p xs) (length xs) e
+
+-- what a search through the numbers of the places finds
+pub found_is : {X : Type 0} (p : X → Bool) (xs : List X) (d : X) (n : ℕ) (r : Option ℕ) → n ≡ length xs → MatchOption r ((k : ℕ) → 0 ≤ k → k < n → p (get_or xs k d) ≡ false) (λ i. (0 ≤ i) × (i < n) × (p (get_or xs i d) ≡ true) × ((k : ℕ) → 0 ≤ k → k < i → p (get_or xs k d) ≡ false)) → r ≡ position p xs
+found_is p xs d n None q f = let e = position_or_len_is p xs (length xs) d (omega arith) (λ k l. f k (omega arith) (omega arith)) (λ l. absurd (omega arith)) in sym (ap (λ b. cond b (Some (position_or_len p xs)) None) (le-ltb (position_or_len p xs) (length xs) (omega arith)))
+found_is p xs d n (Some i) q f = let e = position_or_len_is p xs i d (omega arith) (λ k l. f.3 k (omega arith) l) (λ l. f.2) in let h = lt-ltb (position_or_len p xs) (length xs) (omega arith) in ap Some (sym e) ∙ sym (ap (λ b. cond b (Some (position_or_len p xs)) None) h)
 
 -- and where none is found, none passes
 none_passes : {X : Type 0} (p : X → Bool) (xs : List X) → (length xs ≤ position_or_len p xs) → list_any p xs ≡ false

@@ -1,5 +1,6 @@
 // What a store and a cache speak of, by value: the numbers of a stored response, and the connections.
-ghost use Rattle.std.specs.Prelude.{◌<◌};
+ghost use Rattle.std.specs.Prelude.{◌≡◌, ◌<◌, Some, None, if◌then◌else◌, nat_lt};
+ghost use Rattle.std.specs.Option.{option_map};
 
 /// How many connections to the origin there are.
 pub const CONNECTIONS: usize = 8;
@@ -9,6 +10,19 @@ pub const CONNECTIONS: usize = 8;
 pub struct Connection {
     pub number: usize,
     ghost within: { number < 8 },
+}
+
+impl Connection {
+    /// The connection of this number, if there is one.
+    pub fn new(number: usize) -> Option<Connection>
+        ensures { option_map (λ c. c.number) result ≡ (if nat_lt number 8 then Some number else None) }
+    {
+        if number < CONNECTIONS {
+            Some(Connection { number })
+        } else {
+            None
+        }
+    }
 }
 
 /// The numbers of a stored response.
