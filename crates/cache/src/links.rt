@@ -17,7 +17,7 @@ impl<S> Cache<S> {
     }
 
     /// The connection of this number, with the exchange that is under way there.
-    pub fn under_way(&self, number: usize) -> Option<(Connection, Exchange)>
+    pub(crate) fn under_way(&self, number: usize) -> Option<(Connection, Exchange)>
         ensures { option_map (λ p. (p.0.number, p.1)) result ≡ busy_on number self.now.links }
     {
         let c = Connection::new(number)?;
