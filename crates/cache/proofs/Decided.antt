@@ -1,13 +1,15 @@
 -- A cache's decisions, in the subject's own words.
-use Rattle.std.proofs.Common.{◌≡◌, ℕ, zero, suc, Bool, true, false, cond, not, ◌&&◌, ◌||◌, ltb, List, length, get_or, is_some, Some, None, Option, sym, refl, ap, ◌∙◌, subst, arith, get_or-set_same}
+use Rattle.std.proofs.Common.{◌≡◌, ℕ, zero, suc, Bool, true, false, cond, not, ◌&&◌, ◌||◌, ltb, List, [], ◌∷◌, length, get_or, is_some, Some, None, Option, Ok, Err, Result, sym, refl, ap, ◌∙◌, subst, arith, get_or-set_same}
 use Rattle.store.specs.declared.types.Row.{Row}
-use Rattle.lists.specs.Firsts.{found, any}
+use Rattle.std.specs.List.{position, list_any, fold, range_with_len}
 use Rattle.store.specs.Slots.{Slot, Empty, is_for, holds, is_empty, row_of, tag_of}
 use Rattle.lists.proofs.Firsts.{found_passes, found_any}
 use Rattle.cache.specs.declared.types.Exchange.{Exchange}
 use Rattle.cache.specs.declared.types.Words.{Words}
 use Rattle.cache.specs.declared.types.Looked.{Looked}
-use Rattle.cache.specs.declared.types.Looked.TheVariants.{Forwarded, Refused}
+use Rattle.cache.specs.declared.types.Looked.TheVariants.{Forwarded}
+use Rattle.cache.specs.declared.types.RequestError.{RequestError}
+use Rattle.cache.specs.declared.types.RequestError.TheVariants.{NoConnection}
 use Rattle.cache.specs.Rules.{State, Ask, turn, may_serve, key_of, free_link, can_forward, begins, forwards, revalidates, serves, reads_at, reads_from, requested}
 use Rattle.cache.specs.Answers.{key_at, is_pinned, is_stale, may_go, is_spent, last_use, older, oldest_to, or_else, room_for, may_store, row_for, put_at, stored}
 use Rattle.cache.specs.Decisions.{servable_row, servable_at, servable, is_served, KeepsOthers, SparesPinned, StoresIt}
@@ -18,7 +20,7 @@ bad : {P : Type 0} → ◌≡◌ {A = ℕ} 0 1 → P
 bad e = absurd (omega arith)
 
 -- what is forwarded or refused is not served
-not_served : (x : Bool) (t u : State) (c : ℕ) → is_served (cond x (turn t (Forwarded c)) (turn u Refused)).gives ≡ false
+not_served : (x : Bool) (t u : State) (c : ℕ) → is_served (cond x (turn t (Ok (Forwarded c))) (turn u (Err NoConnection))).gives ≡ false
 not_served true t u c = refl
 not_served false t u c = refl
 
@@ -49,11 +51,11 @@ pub serves_what_may : (knows : Knows) (a : Ask) (s : State) → is_served (reque
 serves_what_may knows a s = go (is_some a.write)
   where
     o : Option ℕ
-    o = found (holds (is_for a.path a.language)) s.slots
+    o = position (holds (is_for a.path a.language)) s.slots
 
-    go : (x : Bool) → is_served (cond x (forwards knows a s) (reads_from knows a (found (holds (is_for a.path a.language)) s.slots) s)).gives ≡ (not x && (servable_at s (found (holds (is_for a.path a.language)) s.slots) && not a.no_cache))
+    go : (x : Bool) → is_served (cond x (forwards knows a s) (reads_from knows a (position (holds (is_for a.path a.language)) s.slots) s)).gives ≡ (not x && (servable_at s (position (holds (is_for a.path a.language)) s.slots) && not a.no_cache))
     go true = forwards_not knows a s
-    go false = reads_from_lem knows a (found (holds (is_for a.path a.language)) s.slots) s
+    go false = reads_from_lem knows a (position (holds (is_for a.path a.language)) s.slots) s
 
 -- the place of an older answer, or a free one, whatever else there is
 either_first : (a b : Option ℕ) (P : Option ℕ → Type 0) → ((i : ℕ) → a ≡ Some i → P (Some i)) → (a ≡ None → P b) → P (or_else a b)
@@ -70,11 +72,11 @@ or_right false y e = e
 
 pub keeps_others : (c : ℕ) (s : State) → KeepsOthers c s (room_for c s)
 unfolding room_for
-keeps_others c s = either_first (found (holds (is_for (key_at c s).path (key_at c s).language)) s.slots) _ (KeepsOthers c s)
+keeps_others c s = either_first (position (holds (is_for (key_at c s).path (key_at c s).language)) s.slots) _ (KeepsOthers c s)
     (λ i e q. or_left _ _ (found_passes (holds (is_for (key_at c s).path (key_at c s).language)) s.slots Empty i e).1)
-    (λ none. either_first (found is_empty s.slots) _ (KeepsOthers c s) (λ i e q. or_right _ _ (found_passes is_empty s.slots Empty i e).1) (λ e. full (or_else (found (is_spent s) s.slots) (oldest_to (length s.slots) s)) (found_any is_empty s.slots e)))
+    (λ none. either_first (position is_empty s.slots) _ (KeepsOthers c s) (λ i e q. or_right _ _ (found_passes is_empty s.slots Empty i e).1) (λ e. full (or_else (position (is_spent s) s.slots) (oldest_to (length s.slots) s)) (found_any is_empty s.slots e)))
   where
-    full : (o : Option ℕ) → any is_empty s.slots ≡ false → KeepsOthers c s o
+    full : (o : Option ℕ) → list_any is_empty s.slots ≡ false → KeepsOthers c s o
     full None e = e
     full (Some i) e = λ q. bad (cc)
 
@@ -115,17 +117,20 @@ older_free s (Some b) n f = go (may_go s (get_or s.slots n Empty)) refl (ltb (la
     go true e false = λ p. f p
     go false e y = λ p. f p
 
+fold_free : (s : State) (b : Option ℕ) (ns : List ℕ) → Free s b → Free s (fold (older s) b ns)
+fold_free s b [] f = f
+fold_free s b (n ∷ ns) f = fold_free s (older s b n) ns (older_free s b n f)
+
 oldest_free : (n : ℕ) (s : State) → Free s (oldest_to n s)
 unfolding oldest_to
-oldest_free zero s = tt
-oldest_free (suc n) s = older_free s (oldest_to n s) n (oldest_free n s)
+oldest_free n s = fold_free s None (range_with_len 0 n) tt
 
 pub spares_pinned : (c : ℕ) (s : State) → SparesPinned c s (room_for c s)
 unfolding room_for
-spares_pinned c s = either_first (found (holds (is_for (key_at c s).path (key_at c s).language)) s.slots) _ (SparesPinned c s)
+spares_pinned c s = either_first (position (holds (is_for (key_at c s).path (key_at c s).language)) s.slots) _ (SparesPinned c s)
     (λ i e q. or_left _ _ (found_passes (holds (is_for (key_at c s).path (key_at c s).language)) s.slots Empty i e).1)
-    (λ none. either_first (found is_empty s.slots) _ (SparesPinned c s) (λ i e q. or_right _ _ (found_passes is_empty s.slots Empty i e).1)
-    (λ e. either_first (found (is_spent s) s.slots) _ (SparesPinned c s) (λ i f q. spent_free s (get_or s.slots i Empty) (found_passes (is_spent s) s.slots Empty i f).1 q) (λ f. last (oldest_to (length s.slots) s) (oldest_free (length s.slots) s))))
+    (λ none. either_first (position is_empty s.slots) _ (SparesPinned c s) (λ i e q. or_right _ _ (found_passes is_empty s.slots Empty i e).1)
+    (λ e. either_first (position (is_spent s) s.slots) _ (SparesPinned c s) (λ i f q. spent_free s (get_or s.slots i Empty) (found_passes (is_spent s) s.slots Empty i f).1 q) (λ f. last (oldest_to (length s.slots) s) (oldest_free (length s.slots) s))))
   where
     last : (o : Option ℕ) → Free s o → SparesPinned c s o
     last None f = tt
@@ -149,5 +154,5 @@ spares_given c s r e = subst (λ (o : Option ℕ). SparesPinned c s o) (sym e) (
 pub stores_given : (fits : Fits) (c : ℕ) (x : Exchange) (varies : Bool) (tag : Option (List ℕ)) (body : List ℕ) (w : Words) (s after : State) → after ≡ stored fits c x varies tag body w s → StoresIt fits c x varies tag body w s (room_for c s) after
 stores_given fits c x varies tag body w s after e = subst (λ (z : State). StoresIt fits c x varies tag body w s (room_for c s) z) (sym e) (stores_it fits c x varies tag body w s)
 
-pub serves_given : (knows : Knows) (a : Ask) (s : State) (r : Looked) → r ≡ (requested knows a s).gives → is_served r ≡ servable a s
+pub serves_given : (knows : Knows) (a : Ask) (s : State) (r : Result Looked RequestError) → r ≡ (requested knows a s).gives → is_served r ≡ servable a s
 serves_given knows a s r e = ap is_served e ∙ serves_what_may knows a s

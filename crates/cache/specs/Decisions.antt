@@ -11,14 +11,15 @@
 --   OnePlace      there is one place for a path and language
 --
 -- Assumes nothing.
-use Rattle.std.specs.Prelude.{◌≡◌, ℕ, Bool, true, false, not, ◌&&◌, ◌||◌, List, is_some, Some, None, Option, slice_index_or}
+use Rattle.std.specs.Prelude.{◌≡◌, ℕ, Bool, true, false, not, ◌&&◌, ◌||◌, List, is_some, Some, None, Option, Ok, Err, Result, slice_index_or}
 use Rattle.store.specs.declared.types.Row.{Row}
-use Rattle.lists.specs.Firsts.{found, any}
+use Rattle.std.specs.List.{position, list_any}
 use Rattle.store.specs.Slots.{Response, Slot, Empty, Filled, is_for, holds, is_empty, row_of}
 use Rattle.cache.specs.declared.types.Words.{Words}
 use Rattle.cache.specs.declared.types.Exchange.{Exchange}
 use Rattle.cache.specs.declared.types.Looked.{Looked}
-use Rattle.cache.specs.declared.types.Looked.TheVariants.{Served, Forwarded, Refused}
+use Rattle.cache.specs.declared.types.Looked.TheVariants.{Served, Forwarded}
+use Rattle.cache.specs.declared.types.RequestError.{RequestError}
 use Rattle.cache.specs.Rules.{State, Ask, may_serve}
 use Rattle.cache.specs.Answers.{key_at, is_pinned, may_store, row_for}
 
@@ -31,16 +32,19 @@ servable_at s None = false
 servable_at s (Some i) = servable_row s.tick (row_of (slice_index_or s.slots i Empty))
 
 abbrev pub servable : Ask → State → Bool
-servable a s = not (is_some a.write) && (servable_at s (found (holds (is_for a.path a.language)) s.slots) && not a.no_cache)
+servable a s = not (is_some a.write) && (servable_at s (position (holds (is_for a.path a.language)) s.slots) && not a.no_cache)
 
-abbrev pub is_served : Looked → Bool
-is_served (Served i) = true
-is_served (Forwarded c) = false
-is_served Refused = false
+abbrev pub is_place : Looked → Bool
+is_place (Served i) = true
+is_place (Forwarded c) = false
+
+abbrev pub is_served : Result Looked RequestError → Bool
+is_served (Ok l) = is_place l
+is_served (Err e) = false
 
 abbrev pub KeepsOthers : ℕ → State → Option ℕ → Type 0
-KeepsOthers c s None = any is_empty s.slots ≡ false
-KeepsOthers c s (Some i) = any is_empty s.slots ≡ true → (holds (is_for (key_at c s).path (key_at c s).language) (slice_index_or s.slots i Empty) || is_empty (slice_index_or s.slots i Empty)) ≡ true
+KeepsOthers c s None = list_any is_empty s.slots ≡ false
+KeepsOthers c s (Some i) = list_any is_empty s.slots ≡ true → (holds (is_for (key_at c s).path (key_at c s).language) (slice_index_or s.slots i Empty) || is_empty (slice_index_or s.slots i Empty)) ≡ true
 
 abbrev pub SparesPinned : ℕ → State → Option ℕ → Type 0
 SparesPinned c s None = Unit {0}

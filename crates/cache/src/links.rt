@@ -1,59 +1,52 @@
-// The connections to the origin, each stepped by value.
-ghost use Rattle.std.specs.Prelude.{◌≡◌, length};
-ghost use Rattle.cache.specs.Answers.{is_reading, mark_if};
+// What is under way on the connections to the origin.
+ghost use Rattle.std.specs.Prelude.{◌≡◌, ◌≤◌, slice_index_or, None, if◌then◌else◌, MatchOption};
+ghost use Rattle.std.specs.List.{position, position_or_len};
+ghost use Rattle.std.specs.Option.{option_map};
+ghost use Rattle.cache.specs.Answers.{is_reading, outdated, busy_on};
 ghost use Rattle.cache.specs.Rules.{is_idle};
-ghost use Rattle.lists.specs.Firsts.{first};
 
-use crate::types::{Exchange, Link};
+use crate::types::{Cache, Exchange};
+use store::types::Connection;
 
-impl Link {
-    pub fn is_idle(self) -> bool
-        ensures { result ≡ is_idle self }
+impl<S> Cache<S> {
+    /// The lowest connection that is idle.
+    pub fn idle_connection(&self) -> Option<Connection>
+        ensures { MatchOption result (8 ≤ position_or_len is_idle self.now.links) (λ c. c.number ≡ position_or_len is_idle self.now.links) }
     {
-        match self {
-            Link::Idle => true,
-            Link::Busy(_) => false,
-        }
+        Connection::new(first_idle(&self.links)?)
     }
 
-    /// Is a read under way on it?
-    pub fn is_reading(self) -> bool
-        ensures { result ≡ is_reading self }
+    /// The connection of this number, with the exchange that is under way there.
+    pub(crate) fn under_way(&self, number: usize) -> Option<(Connection, Exchange)>
+        ensures { option_map (λ p. (p.0.number, p.1)) result ≡ busy_on number self.now.links }
     {
-        match self {
-            Link::Idle => false,
-            Link::Busy(exchange) => !exchange.write,
-        }
+        let c = Connection::new(number)?;
+        Some((c, self.links[c.number]?))
     }
 
-    /// The connection, with its exchange invalidated if `path_is_written`.
-    pub fn mark_if(self, path_is_written: bool) -> Link
-        ensures { result ≡ mark_if path_is_written self }
+    /// Is a read under way on a connection?
+    pub fn is_reading(&self, c: Connection) -> bool
+        ensures { result ≡ is_reading (slice_index_or self.now.links c.number None) }
     {
-        match self {
-            Link::Idle => Link::Idle,
-            Link::Busy(exchange) => {
-                if path_is_written {
-                    Link::Busy(Exchange {
-                        invalidated: true,
-                        ..exchange
-                    })
-                } else {
-                    Link::Busy(exchange)
-                }
-            }
+        self.links[c.number].is_some_and(|exchange| !exchange.write)
+    }
+}
+
+impl Exchange {
+    /// Invalidated, if its path is written.
+    pub fn marked_if(self, path_is_written: bool) -> Exchange
+        ensures { result ≡ (if path_is_written then outdated self else self) }
+    {
+        Exchange {
+            invalidated: self.invalidated || path_is_written,
+            ..self
         }
     }
 }
 
-/// The lowest connection that is idle, or their number.
-pub fn free_link(links: &[Link]) -> usize
-    ensures { result ≡ first is_idle links.now }
+/// The lowest number of what is idle.
+fn first_idle(links: &[Option<Exchange>]) -> Option<usize>
+    ensures { result ≡ position is_idle links.now }
 {
-    for (i, link) in links.iter().enumerate() {
-        if link.is_idle() {
-            return i;
-        }
-    }
-    links.len()
+    links.iter().position(|link| link.is_none())
 }

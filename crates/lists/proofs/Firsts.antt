@@ -1,77 +1,56 @@
--- Laws of the first element that passes a test, as a loop uses them.
-use Rattle.std.proofs.Common.{◌≡◌, ℕ, suc, ◌+◌, ◌<◌, ◌≤◌, Bool, true, false, cond, ltb, List, [], ◌∷◌, length, get_or, drop, Some, None, sym, refl, ap, ◌∙◌, subst, arith, ltb-true, le-ltb, lt-ltb}
-use Rattle.std.proofs.lemmas.List.{at_drop_more, at_drop_all}
-use Rattle.lists.specs.Firsts.{first, found, any}
+-- Laws of the first element that passes a test.
+use Rattle.std.proofs.Common.{◌≡◌, ℕ, suc, ◌+◌, ◌<◌, ◌≤◌, Bool, true, false, cond, not, ◌||◌, ltb, ltb-true, ltb-false, le-ltb, lt-ltb, List, [], ◌∷◌, length, get_or, Some, None, Option, sym, refl, ap, ◌∙◌, arith}
+use Rattle.std.specs.List.{position_or_len, position, list_any}
+use Rattle.std.proofs.lemmas.List.Quantifiers.{position-Some}
+use Rattle.std.proofs.lemmas.List.Sums.{position_or_len_is}
+use Rattle.std.specs.Prelude.{MatchOption}
 
-pub first_here : {X : Type 0} (p : X → Bool) (x : X) (xs : List X) → p x ≡ true → first p (x ∷ xs) ≡ 0
-unfolding first
-first_here p x xs e = ap (λ b. cond b 0 (suc (first p xs))) e
+pub first_here : {X : Type 0} (p : X → Bool) (x : X) (xs : List X) → p x ≡ true → position_or_len p (x ∷ xs) ≡ 0
+first_here p x xs e = rw e refl
 
-pub first_later : {X : Type 0} (p : X → Bool) (x : X) (xs : List X) → p x ≡ false → first p (x ∷ xs) ≡ suc (first p xs)
-unfolding first
-first_later p x xs e = ap (λ b. cond b 0 (suc (first p xs))) e
-
-pub first_none : {X : Type 0} (p : X → Bool) → first p [] ≡ 0
-unfolding first
-first_none p = refl
-
--- the invariant of a loop that looks for the first place that passes
-abbrev pub Sought : {X : Type 0} → (X → Bool) → List X → ℕ → Type 0
-Sought p xs i = first p (drop i xs) + i ≡ first p xs
-
-pub sought_more : {X : Type 0} (p : X → Bool) (xs : List X) (i : ℕ) (d : X) → i < length xs → p (get_or xs i d) ≡ false → Sought p xs i → Sought p xs (i + 1)
-sought_more p xs i d h e inv = let f = at_drop_more (first p) xs i d h in let g = first_later p (get_or xs i d) (drop (i + 1) xs) e in omega (arith, f, g)
-
-pub sought_found : {X : Type 0} (p : X → Bool) (xs : List X) (i : ℕ) (d : X) → i < length xs → p (get_or xs i d) ≡ true → Sought p xs i → i ≡ first p xs
-sought_found p xs i d h e inv = let f = at_drop_more (first p) xs i d h in let g = first_here p (get_or xs i d) (drop (i + 1) xs) e in omega (arith, f, g)
-
-pub sought_all : {X : Type 0} (p : X → Bool) (xs : List X) (i : ℕ) → length xs ≤ i → Sought p xs i → i ≡ first p xs
-sought_all p xs i h inv = let f = at_drop_all (first p) xs i h in omega (arith, f, first_none p)
-
--- the same, of what is found
-pub found_here : {X : Type 0} (p : X → Bool) (xs : List X) (i : ℕ) (d : X) → i < length xs → p (get_or xs i d) ≡ true → Sought p xs i → Some i ≡ found p xs
-found_here p xs i d l e inv =
-    let h : i ≡ first p xs = sought_found p xs i d l e inv in
-    ap Some h ∙ sym (ap (λ b. cond b (Some (first p xs)) None) (lt-ltb (first p xs) (length xs) (omega arith)))
-
-pub found_none : {X : Type 0} (p : X → Bool) (xs : List X) (i : ℕ) → length xs ≤ i → Sought p xs i → None ≡ found p xs
-found_none p xs i l inv =
-    let h : i ≡ first p xs = sought_all p xs i l inv in
-    sym (ap (λ b. cond b (Some (first p xs)) None) (le-ltb (first p xs) (length xs) (omega arith)))
-
-pub any_here : {X : Type 0} (p : X → Bool) (xs : List X) (i : ℕ) (d : X) → i < length xs → p (get_or xs i d) ≡ true → Sought p xs i → true ≡ any p xs
-any_here p xs i d l e inv = let h : i ≡ first p xs = sought_found p xs i d l e inv in sym (lt-ltb (first p xs) (length xs) (omega arith))
-
-pub any_none : {X : Type 0} (p : X → Bool) (xs : List X) (i : ℕ) → length xs ≤ i → Sought p xs i → false ≡ any p xs
-any_none p xs i l inv = let h : i ≡ first p xs = sought_all p xs i l inv in sym (le-ltb (first p xs) (length xs) (omega arith))
-
--- the first that passes, passes
-pub first_passes : {X : Type 0} (p : X → Bool) (xs : List X) (d : X) → first p xs < length xs → p (get_or xs (first p xs) d) ≡ true
-first_passes p [] d h = absurd (omega (arith, first_none p))
-first_passes p (x ∷ xs) d h = go (p x) refl (λ l. first_passes p xs d l)
-  where
-    go : (b : Bool) → p x ≡ b → (first p xs < length xs → p (get_or xs (first p xs) d) ≡ true) → p (get_or (x ∷ xs) (first p (x ∷ xs)) d) ≡ true
-    go true e ih = let q = first_here p x xs e in ap (λ (i : ℕ). p (get_or (x ∷ xs) i d)) q ∙ e
-    go false e ih =
-        let q = first_later p x xs e in
-        let l : first p xs < length xs = omega (arith, q) in
-        ap (λ (i : ℕ). p (get_or (x ∷ xs) i d)) q ∙ ih l
+pub first_later : {X : Type 0} (p : X → Bool) (x : X) (xs : List X) → p x ≡ false → position_or_len p (x ∷ xs) ≡ suc (position_or_len p xs)
+first_later p x xs e = rw e (omega arith)
 
 -- what is found is there, and passes
-pub found_passes : {X : Type 0} (p : X → Bool) (xs : List X) (d : X) (i : ℕ) → found p xs ≡ Some i → (i < length xs) × (p (get_or xs i d) ≡ true)
-found_passes p xs d i h = go (ltb (first p xs) (length xs)) refl h
+pub found_passes : {X : Type 0} (p : X → Bool) (xs : List X) (d : X) (i : ℕ) → position p xs ≡ Some i → (i < length xs) × (p (get_or xs i d) ≡ true)
+found_passes p xs d i h = let f = position-Some p xs i d h in (f.0, f.1)
+
+-- the first that passes, passes
+pub first_passes : {X : Type 0} (p : X → Bool) (xs : List X) (d : X) → position_or_len p xs < length xs → p (get_or xs (position_or_len p xs) d) ≡ true
+first_passes p xs d l = (found_passes p xs d (position_or_len p xs) (ap (λ b. cond b (Some (position_or_len p xs)) None) (lt-ltb (position_or_len p xs) (length xs) l))).1
+
+-- where it is found, and where none is
+pub found_at : {X : Type 0} (p : X → Bool) (xs : List X) (i : ℕ) → position p xs ≡ Some i → (i ≡ position_or_len p xs) × (i < length xs)
+found_at p xs i h = go (ltb (position_or_len p xs) (length xs)) refl h
   where
-    go : (b : Bool) → ltb (first p xs) (length xs) ≡ b → cond b (Some (first p xs)) None ≡ Some i → (i < length xs) × (p (get_or xs i d) ≡ true)
-    go true e q =
-        let r : first p xs ≡ i = cc in
-        let l : first p xs < length xs = ltb-true (first p xs) (length xs) e in
-        subst (λ (j : ℕ). (j < length xs) × (p (get_or xs j d) ≡ true)) r (l, first_passes p xs d l)
+    go : (b : Bool) → ltb (position_or_len p xs) (length xs) ≡ b → cond b (Some (position_or_len p xs)) None ≡ Some i → (i ≡ position_or_len p xs) × (i < length xs)
+    go true e q = let l = ltb-true (position_or_len p xs) (length xs) e in let r : position_or_len p xs ≡ i = cc in (omega arith, omega arith)
     go false e q = absurd (let z : ◌≡◌ {A = ℕ} 0 1 = cc in omega arith)
 
--- and where none is found, none passes
-pub found_any : {X : Type 0} (p : X → Bool) (xs : List X) → found p xs ≡ None → any p xs ≡ false
-found_any p xs h = go (ltb (first p xs) (length xs)) refl h
+pub found_past : {X : Type 0} (p : X → Bool) (xs : List X) → position p xs ≡ None → length xs ≤ position_or_len p xs
+found_past p xs h = go (ltb (position_or_len p xs) (length xs)) refl h
   where
-    go : (b : Bool) → ltb (first p xs) (length xs) ≡ b → cond b (Some (first p xs)) None ≡ None → b ≡ false
+    go : (b : Bool) → ltb (position_or_len p xs) (length xs) ≡ b → cond b (Some (position_or_len p xs)) None ≡ None → length xs ≤ position_or_len p xs
     go true e q = absurd (let z : ◌≡◌ {A = ℕ} 0 1 = cc in omega arith)
-    go false e q = refl
+    go false e q = ltb-false (position_or_len p xs) (length xs) e
+
+-- what a search through the numbers of the places finds
+pub found_is : {X : Type 0} (p : X → Bool) (xs : List X) (d : X) (n : ℕ) (r : Option ℕ) → n ≡ length xs → MatchOption r ((k : ℕ) → 0 ≤ k → k < n → p (get_or xs k d) ≡ false) (λ i. (0 ≤ i) × (i < n) × (p (get_or xs i d) ≡ true) × ((k : ℕ) → 0 ≤ k → k < i → p (get_or xs k d) ≡ false)) → r ≡ position p xs
+found_is p xs d n None q f = let e = position_or_len_is p xs (length xs) d (omega arith) (λ k l. f k (omega arith) (omega arith)) (λ l. absurd (omega arith)) in sym (ap (λ b. cond b (Some (position_or_len p xs)) None) (le-ltb (position_or_len p xs) (length xs) (omega arith)))
+found_is p xs d n (Some i) q f = let e = position_or_len_is p xs i d (omega arith) (λ k l. f.3 k (omega arith) l) (λ l. f.2) in let h = lt-ltb (position_or_len p xs) (length xs) (omega arith) in ap Some (sym e) ∙ sym (ap (λ b. cond b (Some (position_or_len p xs)) None) h)
+
+-- and where none is found, none passes
+none_passes : {X : Type 0} (p : X → Bool) (xs : List X) → (length xs ≤ position_or_len p xs) → list_any p xs ≡ false
+none_passes p [] h = refl
+none_passes p (x ∷ xs) h = go (p x) refl (none_passes p xs)
+  where
+    go : (a : Bool) → p x ≡ a → (length xs ≤ position_or_len p xs → list_any p xs ≡ false) → (p x || list_any p xs) ≡ false
+    go true e ih = absurd (let z = first_here p x xs e in omega arith)
+    go false e ih = let z = first_later p x xs e in rw e (ih (omega arith))
+
+pub found_any : {X : Type 0} (p : X → Bool) (xs : List X) → position p xs ≡ None → list_any p xs ≡ false
+found_any p xs h = go (ltb (position_or_len p xs) (length xs)) refl h
+  where
+    go : (b : Bool) → ltb (position_or_len p xs) (length xs) ≡ b → cond b (Some (position_or_len p xs)) None ≡ None → list_any p xs ≡ false
+    go true e q = absurd (let z : ◌≡◌ {A = ℕ} 0 1 = cc in omega arith)
+    go false e q = none_passes p xs (ltb-false (position_or_len p xs) (length xs) e)

@@ -6,13 +6,10 @@ use Rattle.std.proofs.lemmas.Bool.{le-ltb}
 use Rattle.std.proofs.lemmas.Bool.Decides.{nat_tests}
 use Rattle.std.specs.Str.{bytes_eq}
 use Rattle.store.specs.declared.types.Row.{Row}
-use Rattle.lists.specs.Firsts.{first, any}
+use Rattle.std.specs.List.{list_any}
 use Rattle.store.specs.Slots.{Response, Slot, Empty, Filled, no_key, same_bool, tag_is, is_for, of_path, is_tagged, is_asked_for, is_asked, otherwise, holds, without, with_row, row_of}
-use Rattle.lists.proofs.Firsts.{first_later, first_none}
 use Rattle.cache.specs.declared.types.Words.{Words}
 use Rattle.cache.specs.declared.types.Exchange.{Exchange}
-use Rattle.cache.specs.declared.types.Link.{Link}
-use Rattle.cache.specs.declared.types.Link.TheVariants.{Idle, Busy}
 use Rattle.cache.specs.declared.types.Outcome.{Outcome}
 use Rattle.cache.specs.declared.types.Outcome.TheVariants.{Nobody, Passed, Held}
 use Rattle.cache.specs.Rules.{State, Turn, turn, with_slots}
@@ -31,9 +28,9 @@ use Rattle.cache.proofs.Names.{Fits}
 use Rattle.refinement.proofs.Names.{Bodies}
 
 -- nothing that is stored says otherwise about `vary`
-none_passes : (p : Slot → Bool) (ks : List Slot) → ((i : ℕ) → p (get_or ks i Empty) ≡ false) → first p ks ≡ length ks
-none_passes p [] h = first_none p
-none_passes p (k ∷ ks) h = first_later p k ks (h 0) ∙ ap suc (none_passes p ks (λ i. h (suc i)))
+none_passes : (p : Slot → Bool) (ks : List Slot) → ((i : ℕ) → p (get_or ks i Empty) ≡ false) → list_any p ks ≡ false
+none_passes p [] h = refl
+none_passes p (k ∷ ks) h = rw (h 0) (none_passes p ks (λ i. h (suc i)))
 
 bools_differ : (x y : Bool) → x ≡ y → not (same_bool x y) ≡ false
 bools_differ true true e = refl
@@ -41,8 +38,8 @@ bools_differ false false e = refl
 bools_differ true false e = bad (cc)
 bools_differ false true e = bad (cc)
 
-none_otherwise : (b : Bodies) (s : world.Setting) (path : List ℕ) (varies : Bool) (ks : List Slot) → AllGood b s ks → varies ≡ s.varies (number_of path) → any (holds (otherwise path varies)) ks ≡ false
-none_otherwise b s path varies ks g e = ap (λ (n : ℕ). ltb n (length ks)) (none_passes (holds (otherwise path varies)) ks none) ∙ le-ltb (length ks) (length ks) (omega arith)
+none_otherwise : (b : Bodies) (s : world.Setting) (path : List ℕ) (varies : Bool) (ks : List Slot) → AllGood b s ks → varies ≡ s.varies (number_of path) → list_any (holds (otherwise path varies)) ks ≡ false
+none_otherwise b s path varies ks g e = none_passes (holds (otherwise path varies)) ks none
   where
     it : (r : Response) → Good b s r → otherwise path varies r ≡ false
     it r q = go (bytes_eq r.path path) refl
@@ -95,7 +92,7 @@ module _ (b : Bodies) (s : world.Setting) (st : State) (w : world.World) (h : St
         links = links;
         slots = map-without b s (of_path path) (world.of_resource (number_of path)) (of_path_lem b s path) st.slots h.good ∙ ap (map (world.without (world.of_resource (number_of path)))) h.slots;
         good = good_without b s (of_path path) st.slots h.good;
-        eight = length-marked_eight path st.keys (set st.links c Idle) (length-set st.links c _ ∙ h.eight);
+        eight = length-marked_eight path st.keys (set st.links c None) (length-set st.links c _ ∙ h.eight);
         eight_keys = h.eight_keys;
         eight_held = h.eight_held;
         eight_connections = length-map (set w.connections c model.Idle) (world.invalidate (number_of path)) ∙ (length-set w.connections c _ ∙ h.eight_connections);
@@ -104,12 +101,12 @@ module _ (b : Bodies) (s : world.Setting) (st : State) (w : world.World) (h : St
       path : List ℕ
       path = (key_at c st).path
 
-      links : (d : ℕ) → Shows b s (get_or (marked_to 8 path st.keys (set st.links c Idle)) d Idle) (get_or st.keys d no_key) (get_or st.held d []) (get_or (map (world.invalidate (number_of path)) (set w.connections c model.Idle)) d model.Idle)
-      links d = both _ _ _ _ (marked-get path st.keys (set st.links c Idle) d (length-set st.links c _ ∙ h.eight)) (get-map (world.invalidate (number_of path)) model.Idle refl (set w.connections c model.Idle) d)
-          (shows_marked b s path (get_or (set st.links c Idle) d Idle) (get_or st.keys d no_key) (get_or st.held d []) (get_or (set w.connections c model.Idle) d model.Idle)
+      links : (d : ℕ) → Shows b s (get_or (marked_to 8 path st.keys (set st.links c None)) d None) (get_or st.keys d no_key) (get_or st.held d []) (get_or (map (world.invalidate (number_of path)) (set w.connections c model.Idle)) d model.Idle)
+      links d = both _ _ _ _ (marked-get path st.keys (set st.links c None) d (length-set st.links c _ ∙ h.eight)) (get-map (world.invalidate (number_of path)) model.Idle refl (set w.connections c model.Idle) d)
+          (shows_marked b s path (get_or (set st.links c None) d None) (get_or st.keys d no_key) (get_or st.held d []) (get_or (set w.connections c model.Idle) d model.Idle)
           (shows_ended b s st.links st.keys st.held w.connections h.eight h.eight_keys h.eight_held h.eight_connections h.links c below d))
         where
-          both : (l1 l2 : Link) (c1 c2 : model.Connection) → l1 ≡ l2 → c1 ≡ c2 → Shows b s l2 (get_or st.keys d no_key) (get_or st.held d []) c2 → Shows b s l1 (get_or st.keys d no_key) (get_or st.held d []) c1
+          both : (l1 l2 : Option Exchange) (c1 c2 : model.Connection) → l1 ≡ l2 → c1 ≡ c2 → Shows b s l2 (get_or st.keys d no_key) (get_or st.held d []) c2 → Shows b s l1 (get_or st.keys d no_key) (get_or st.held d []) c1
           both l1 l2 c1 c2 p q z = rw (p, q) z
 
   -- the connection is lost, or what came on it is a fault
@@ -271,7 +268,7 @@ module _ (b : Bodies) (s : world.Setting) (st : State) (w : world.World) (h : St
             some_same u v e = cc
 
     same_so : (fits : Fits) → y.answer ≡ model.NotModified (life_of wd) wd.private →
-        StepSo b s (not_modified c x wd (ended_at c st)) w (outcome_events fits c (Busy x) (NotModified wd) (same_for x) st) (outcome_gives b s c (Busy x) (NotModified wd) (same_for x) st)
+        StepSo b s (not_modified c x wd (ended_at c st)) w (outcome_events fits c (Some x) (NotModified wd) (same_for x) st) (outcome_gives b s c (Some x) (NotModified wd) (same_for x) st)
     same_so fits e = go x.own_tag refl
       where
         passed_text : world.matched (validator_of b s (key_at c st)) ≡ world.matched y.validator
@@ -280,7 +277,7 @@ module _ (b : Bodies) (s : world.Setting) (st : State) (w : world.World) (h : St
         so : (content : world.Content) → world.Text (world.matched y.validator) ≡ content → StepSo b s (not_modified c x wd (ended_at c st)) w (world.Receive c (may_store x wd && asks_there c st (place_for c st)) (unwrap_or (place_for c st) 0) ∷ []) (delivery_of x (key_at c st) content ∷ [])
         so content f = received_so (not_modified c x wd (ended_at c st)) _ _ (model.NotModified (life_of wd) wd.private) content e (same_stands wd.private _ refl) (ap (λ (z : world.Content). world.deliver y z w.delivered) f)
 
-        go : (o : Bool) → x.own_tag ≡ o → StepSo b s (not_modified c x wd (ended_at c st)) w (outcome_events fits c (Busy x) (NotModified wd) (cond o (Passed x.client) (Held x.client)) st) (outcome_gives b s c (Busy x) (NotModified wd) (cond o (Passed x.client) (Held x.client)) st)
+        go : (o : Bool) → x.own_tag ≡ o → StepSo b s (not_modified c x wd (ended_at c st)) w (outcome_events fits c (Some x) (NotModified wd) (cond o (Passed x.client) (Held x.client)) st) (outcome_gives b s c (Some x) (NotModified wd) (cond o (Passed x.client) (Held x.client)) st)
         go true f = so _ (ap world.Text (sym passed_text))
         go false f = so _ (ap world.Text (matched_is ∙ sym (held_text f)))
 
@@ -364,25 +361,25 @@ module _ (b : Bodies) (v : ℕ → Bool) (places : ℕ) (st : State) (w : world.
   abbrev s'' : world.Setting
   s'' = setting_of v places
 
-  abbrev AnswerTurn : Link → Turn Outcome → Type 0
+  abbrev AnswerTurn : Option Exchange → Turn Outcome → Type 0
   AnswerTurn l t = StepSo b s'' t.state w (outcome_events fits c l r t.gives st) (outcome_gives b s'' c l r t.gives st)
 
-  nothing_so : (l : Link) → AnswerTurn l (turn st Nobody)
-  nothing_so Idle = record { stands = h; delivered = refl }
-  nothing_so (Busy x) = record { stands = h; delivered = refl }
+  nothing_so : (l : Option Exchange) → AnswerTurn l (turn st Nobody)
+  nothing_so None = record { stands = h; delivered = refl }
+  nothing_so (Some x) = record { stands = h; delivered = refl }
 
   module _ (below : c < 8) (x : Exchange) (y : model.Exchange) (on : On w c y) (m : Same b s'' x (get_or st.keys c no_key) (get_or st.held c []) y) where
-    fault_so : AnswerTurn (Busy x) (faulty c x st)
+    fault_so : AnswerTurn (Some x) (faulty c x st)
     fault_so = given_up_so b s'' st w h c below x y on m
 
     -- the kinds of answers
-    full_answer : (varies : Bool) (tag : Option (List ℕ)) (body : List ℕ) (wd : Words) → r ≡ Full varies tag body wd → x.write ≡ false → StepSo b s'' (read_answered fits c x (Full varies tag body wd) st).state w (outcome_events fits c (Busy x) (Full varies tag body wd) (Passed x.client) st) (outcome_gives b s'' c (Busy x) (Full varies tag body wd) (Passed x.client) st)
+    full_answer : (varies : Bool) (tag : Option (List ℕ)) (body : List ℕ) (wd : Words) → r ≡ Full varies tag body wd → x.write ≡ false → StepSo b s'' (read_answered fits c x (Full varies tag body wd) st).state w (outcome_events fits c (Some x) (Full varies tag body wd) (Passed x.client) st) (outcome_gives b s'' c (Some x) (Full varies tag body wd) (Passed x.client) st)
     full_answer varies tag body wd e q = full_so b v places st w h c below x y on m fits varies tag body wd (told e)
       where
         told : r ≡ Full varies tag body wd → HonestFull b s'' y varies tag body wd
         told f = subst (λ (z : Reply). Honest b s'' y z) f (honest y on (subst (λ (z : Reply). suits y z ≡ true) (sym f) (ap not (m.write ∙ q))))
 
-    same_answer : (wd : Words) → r ≡ NotModified wd → x.write ≡ false → (o : Option (List ℕ)) → (key_at c st).tag ≡ o → StepSo b s'' (cond (is_some o) (turn (not_modified c x wd (ended_at c st)) (same_for x)) (faulty c x st)).state w (outcome_events fits c (Busy x) (NotModified wd) (cond (is_some o) (turn (not_modified c x wd (ended_at c st)) (same_for x)) (faulty c x st)).gives st) (outcome_gives b s'' c (Busy x) (NotModified wd) (cond (is_some o) (turn (not_modified c x wd (ended_at c st)) (same_for x)) (faulty c x st)).gives st)
+    same_answer : (wd : Words) → r ≡ NotModified wd → x.write ≡ false → (o : Option (List ℕ)) → (key_at c st).tag ≡ o → StepSo b s'' (cond (is_some o) (turn (not_modified c x wd (ended_at c st)) (same_for x)) (faulty c x st)).state w (outcome_events fits c (Some x) (NotModified wd) (cond (is_some o) (turn (not_modified c x wd (ended_at c st)) (same_for x)) (faulty c x st)).gives st) (outcome_gives b s'' c (Some x) (NotModified wd) (cond (is_some o) (turn (not_modified c x wd (ended_at c st)) (same_for x)) (faulty c x st)).gives st)
     same_answer wd e q None f = given_up_so b s'' st w h c below x y on m
     same_answer wd e q (Some t) f = same_so b s'' st w h c below x y on m wd t f fits (subst (λ (z : Reply). Honest b s'' y z) e (honest y on (subst (λ (z : Reply). suits y z ≡ true) (sym e) fitting)))
       where
@@ -396,18 +393,18 @@ module _ (b : Bodies) (v : ℕ → Bool) (places : ℕ) (st : State) (w : world.
         fitting : (not (is_write y.method) && has_validator y.validator) ≡ true
         fitting = both (is_write y.method) (has_validator y.validator) (m.write ∙ q) valid
 
-    done_answer : (body : List ℕ) → r ≡ Done body → x.write ≡ true → StepSo b s'' (settled c (ended_at c st)) w (outcome_events fits c (Busy x) (Done body) (Passed x.client) st) (outcome_gives b s'' c (Busy x) (Done body) (Passed x.client) st)
+    done_answer : (body : List ℕ) → r ≡ Done body → x.write ≡ true → StepSo b s'' (settled c (ended_at c st)) w (outcome_events fits c (Some x) (Done body) (Passed x.client) st) (outcome_gives b s'' c (Some x) (Done body) (Passed x.client) st)
     done_answer body e q = received_so b s'' st w h c below x y on m (settled c (ended_at c st)) false 0 (model.Done (number_of body)) (world.Acknowledged (number_of body)) (subst (λ (z : Reply). Honest b s'' y z) e (honest y on (subst (λ (z : Reply). suits y z ≡ true) (sym e) (m.write ∙ q))))
         (settled_stands b s'' st w h c below x y on m (world.Acknowledged (number_of body))) refl
 
-    other_answer : (body : List ℕ) → r ≡ Other body → StepSo b s'' (ended_at c st) w (outcome_events fits c (Busy x) (Other body) (Passed x.client) st) (outcome_gives b s'' c (Busy x) (Other body) (Passed x.client) st)
+    other_answer : (body : List ℕ) → r ≡ Other body → StepSo b s'' (ended_at c st) w (outcome_events fits c (Some x) (Other body) (Passed x.client) st) (outcome_gives b s'' c (Some x) (Other body) (Passed x.client) st)
     other_answer body e = received_so b s'' st w h c below x y on m (ended_at c st) false 0 (model.Other (number_of body)) (world.Passed (number_of body)) (subst (λ (z : Reply). Honest b s'' y z) e (honest y on (subst (λ (z : Reply). suits y z ≡ true) (sym e) refl)))
         (ended_same b s'' st w h c below x y on m (world.Passed (number_of body))) refl
 
-    busy_so : AnswerTurn (Busy x) (answered_on fits c (Busy x) r st)
+    busy_so : AnswerTurn (Some x) (answered_on fits c (Some x) r st)
     busy_so = go x.write refl r refl
       where
-        go : (wr : Bool) → x.write ≡ wr → (z : Reply) → r ≡ z → StepSo b s'' (cond wr (write_answered c x z st) (read_answered fits c x z st)).state w (outcome_events fits c (Busy x) z (cond wr (write_answered c x z st) (read_answered fits c x z st)).gives st) (outcome_gives b s'' c (Busy x) z (cond wr (write_answered c x z st) (read_answered fits c x z st)).gives st)
+        go : (wr : Bool) → x.write ≡ wr → (z : Reply) → r ≡ z → StepSo b s'' (cond wr (write_answered c x z st) (read_answered fits c x z st)).state w (outcome_events fits c (Some x) z (cond wr (write_answered c x z st) (read_answered fits c x z st)).gives st) (outcome_gives b s'' c (Some x) z (cond wr (write_answered c x z st) (read_answered fits c x z st)).gives st)
         go true q (Full varies tag body wd) e = given_up_so b s'' st w h c below x y on m
         go true q (NotModified wd) e = given_up_so b s'' st w h c below x y on m
         go true q (Done body) e = done_answer body e q
@@ -417,16 +414,16 @@ module _ (b : Bodies) (v : ℕ → Bool) (places : ℕ) (st : State) (w : world.
         go false q (Done body) e = given_up_so b s'' st w h c below x y on m
         go false q (Other body) e = other_answer body e
 
-  link_so : (below : c < 8) (l : Link) → get_or st.links c Idle ≡ l → Shows b s'' l (get_or st.keys c no_key) (get_or st.held c []) (get_or w.connections c model.Idle) → AnswerTurn l (answered_on fits c l r st)
-  link_so below Idle e z = nothing_so Idle
-  link_so below (Busy x) e z = busy_so below x z.0 z.1 z.2
+  link_so : (below : c < 8) (l : Option Exchange) → get_or st.links c None ≡ l → Shows b s'' l (get_or st.keys c no_key) (get_or st.held c []) (get_or w.connections c model.Idle) → AnswerTurn l (answered_on fits c l r st)
+  link_so below None e z = nothing_so None
+  link_so below (Some x) e z = busy_so below x z.0 z.1 z.2
 
-  answered_so : StepSo b s'' (received fits c r st).state w (answer_events fits c r st) (outcome_gives b s'' c (get_or st.links c Idle) r (received fits c r st).gives st)
+  answered_so : StepSo b s'' (received fits c r st).state w (answer_events fits c r st) (outcome_gives b s'' c (get_or st.links c None) r (received fits c r st).gives st)
   answered_so = go (ltb c 8) refl
     where
-      go : (z : Bool) → ltb c 8 ≡ z → AnswerTurn (get_or st.links c Idle) (cond z (answered_on fits c (get_or st.links c Idle) r st) (turn st Nobody))
-      go true e = link_so (let l : c < 8 = grind (arith, nat_tests) in l) (get_or st.links c Idle) refl (h.links c)
-      go false e = nothing_so (get_or st.links c Idle)
+      go : (z : Bool) → ltb c 8 ≡ z → AnswerTurn (get_or st.links c None) (cond z (answered_on fits c (get_or st.links c None) r st) (turn st Nobody))
+      go true e = link_so (let l : c < 8 = grind (arith, nat_tests) in l) (get_or st.links c None) refl (h.links c)
+      go false e = nothing_so (get_or st.links c None)
 
 pub answer_so : (fits : Fits) (c : ℕ) (r : Reply) (st : State) → AnswerSo fits c r st
 answer_so fits c r st b v places w h honest = answered_so b v places st w h fits c r honest
@@ -434,16 +431,16 @@ answer_so fits c r st b v places w h honest = answered_so b v places st w h fits
 pub lose_so : (c : ℕ) (st : State) → LoseSo c st
 lose_so c st b s w h = go (ltb c 8) refl
   where
-    past : ltb c 8 ≡ false → get_or st.links c Idle ≡ Idle
-    past e = get_or_past st.links c Idle (let l : 8 ≤ c = grind (arith, nat_tests) in omega (arith, h.eight))
+    past : ltb c 8 ≡ false → get_or st.links c None ≡ None
+    past e = get_or_past st.links c None (let l : 8 ≤ c = grind (arith, nat_tests) in omega (arith, h.eight))
 
-    none : get_or st.links c Idle ≡ Idle → StepSo b s st w (lost_events c (get_or st.links c Idle)) (lost_gives (get_or st.links c Idle) (key_at c st))
+    none : get_or st.links c None ≡ None → StepSo b s st w (lost_events c (get_or st.links c None)) (lost_gives (get_or st.links c None) (key_at c st))
     none e = rw e (record { stands = h; delivered = refl })
 
-    on : c < 8 → (l : Link) → Shows b s l (get_or st.keys c no_key) (get_or st.held c []) (get_or w.connections c model.Idle) → StepSo b s (lost_on c l st).state w (lost_events c l) (lost_gives l (key_at c st))
-    on below Idle z = record { stands = h; delivered = refl }
-    on below (Busy x) z = given_up_so b s st w h c below x z.0 z.1 z.2
+    on : c < 8 → (l : Option Exchange) → Shows b s l (get_or st.keys c no_key) (get_or st.held c []) (get_or w.connections c model.Idle) → StepSo b s (lost_on c l st).state w (lost_events c l) (lost_gives l (key_at c st))
+    on below None z = record { stands = h; delivered = refl }
+    on below (Some x) z = given_up_so b s st w h c below x z.0 z.1 z.2
 
-    go : (z : Bool) → ltb c 8 ≡ z → StepSo b s (cond z (lost_on c (get_or st.links c Idle) st) (turn st Nobody)).state w (lost_events c (get_or st.links c Idle)) (lost_gives (get_or st.links c Idle) (key_at c st))
-    go true e = on (let l : c < 8 = grind (arith, nat_tests) in l) (get_or st.links c Idle) (h.links c)
+    go : (z : Bool) → ltb c 8 ≡ z → StepSo b s (cond z (lost_on c (get_or st.links c None) st) (turn st Nobody)).state w (lost_events c (get_or st.links c None)) (lost_gives (get_or st.links c None) (key_at c st))
+    go true e = on (let l : c < 8 = grind (arith, nat_tests) in l) (get_or st.links c None) (h.links c)
     go false e = none (past e)

@@ -1,14 +1,15 @@
 -- A tick, what the origin does, and a client's request: the cache goes on to stand for the world.
-use Rattle.std.proofs.Common.{◌≡◌, ℕ, zero, suc, ◌+◌, ◌<◌, Bool, true, false, cond, ◌&&◌, eqb, ltb, leb, ◌≢◌, List, [], ◌∷◌, map, length, get_or, set, is_some, Some, None, Option, sym, refl, ap, ◌∙◌, subst, ⊎_elim, arith, length-set, get_or-set_other, get_or-set_same}
+use Rattle.std.proofs.Common.{◌≡◌, ℕ, zero, suc, ◌+◌, ◌<◌, Bool, true, false, cond, ◌&&◌, eqb, ltb, leb, ◌≢◌, List, [], ◌∷◌, map, length, get_or, set, is_some, Some, None, Option, Ok, Err, Result, sym, refl, ap, ◌∙◌, subst, ⊎_elim, arith, length-set, get_or-set_other, get_or-set_same}
 use Rattle.std.proofs.lemmas.Bool.{lt-ltb}
 use Rattle.std.proofs.lemmas.Bool.Decides.{nat_tests}
-use Rattle.lists.specs.Firsts.{found}
+use Rattle.std.specs.List.{position}
 use Rattle.store.specs.Slots.{Response, Slot, Empty, Filled, Key, no_key, is_for, holds, with_row, row_of, tag_of, body_of}
 use Rattle.lists.proofs.Firsts.{first_passes, found_passes}
-use Rattle.cache.specs.declared.types.Link.{Link}
-use Rattle.cache.specs.declared.types.Link.TheVariants.{Idle, Busy}
+use Rattle.cache.specs.declared.types.Exchange.{Exchange}
 use Rattle.cache.specs.declared.types.Looked.{Looked}
-use Rattle.cache.specs.declared.types.Looked.TheVariants.{Forwarded, Refused}
+use Rattle.cache.specs.declared.types.Looked.TheVariants.{Forwarded}
+use Rattle.cache.specs.declared.types.RequestError.{RequestError}
+use Rattle.cache.specs.declared.types.RequestError.TheVariants.{NoConnection}
 use Rattle.cache.specs.Rules.{State, Ask, Turn, turn, can_tick, may_serve, key_of, is_idle, free_link, can_forward, begun, begins, forwards, asks_same, revalidates, used_at, serves, serves_unless, reads_at, reads_from}
 use Rattle.model.specs.Exchanges as model
 use Rattle.model.specs.World as world
@@ -29,9 +30,9 @@ tick_so st b s w h = go (can_tick st)
     go false = record { stands = h; delivered = refl }
 
 -- the origin's answer is none of the cache's business
-shows_answered : (b : Bodies) (s : world.Setting) (l : Link) (k : Key) (held : List ℕ) (y : model.Exchange) (r : model.Answer) → Shows b s l k held (model.Busy y) → Shows b s l k held (model.Busy (world.answered r y))
-shows_answered b s Idle k held y r h = bad (cc)
-shows_answered b s (Busy x) k held y r h = go h.0 h.1 h.2
+shows_answered : (b : Bodies) (s : world.Setting) (l : Option Exchange) (k : Key) (held : List ℕ) (y : model.Exchange) (r : model.Answer) → Shows b s l k held (model.Busy y) → Shows b s l k held (model.Busy (world.answered r y))
+shows_answered b s None k held y r h = bad (cc)
+shows_answered b s (Some x) k held y r h = go h.0 h.1 h.2
   where
     go : (z : model.Exchange) → model.Busy y ≡ model.Busy z → Same b s x k held z → (u : model.Exchange) × (model.Busy (world.answered r y) ≡ model.Busy u) × Same b s x k held u
     go z q m = let e : y ≡ z = cc in (
@@ -49,17 +50,17 @@ in_range (x ∷ cs) (suc c) y h = let l = in_range cs c y h in omega arith
 answered_stands : (b : Bodies) (s : world.Setting) (st : State) (w w' : world.World) (c : ℕ) (y : model.Exchange) (r : model.Answer) → Stands b s st w → get_or w.connections c model.Idle ≡ model.Busy y → w'.now ≡ w.now → w'.next ≡ w.next → w'.slots ≡ w.slots → w'.connections ≡ set w.connections c (model.Busy (world.answered r y)) → Stands b s st w'
 answered_stands b s st w w' c y r h on qn qx qs qc = record { tick = h.tick ∙ sym qn; next = h.next ∙ sym qx; links = links; slots = h.slots ∙ sym qs; good = h.good; eight = h.eight; eight_keys = h.eight_keys; eight_held = h.eight_held; eight_connections = ap length qc ∙ (length-set w.connections c _ ∙ h.eight_connections) }
   where
-    links : (d : ℕ) → Shows b s (get_or st.links d Idle) (get_or st.keys d no_key) (get_or st.held d []) (get_or w'.connections d model.Idle)
+    links : (d : ℕ) → Shows b s (get_or st.links d None) (get_or st.keys d no_key) (get_or st.held d []) (get_or w'.connections d model.Idle)
     links d = ⊎_elim here there (same_or_not d c)
       where
-        here : d ≡ c → Shows b s (get_or st.links d Idle) (get_or st.keys d no_key) (get_or st.held d []) (get_or w'.connections d model.Idle)
-        here e = subst (λ (k : model.Connection). Shows b s (get_or st.links d Idle) (get_or st.keys d no_key) (get_or st.held d []) k)
+        here : d ≡ c → Shows b s (get_or st.links d None) (get_or st.keys d no_key) (get_or st.held d []) (get_or w'.connections d model.Idle)
+        here e = subst (λ (k : model.Connection). Shows b s (get_or st.links d None) (get_or st.keys d no_key) (get_or st.held d []) k)
             (sym (ap (λ (k : List model.Connection). get_or k d model.Idle) qc ∙ (ap (λ (i : ℕ). get_or (set w.connections c (model.Busy (world.answered r y))) i model.Idle) e ∙ get_or-set_same w.connections c (model.Busy (world.answered r y)) model.Idle (in_range w.connections c y on))))
-            (shows_answered b s (get_or st.links d Idle) (get_or st.keys d no_key) (get_or st.held d []) y r
-            (subst (λ (k : model.Connection). Shows b s (get_or st.links d Idle) (get_or st.keys d no_key) (get_or st.held d []) k) (ap (λ (i : ℕ). get_or w.connections i model.Idle) e ∙ on) (h.links d)))
+            (shows_answered b s (get_or st.links d None) (get_or st.keys d no_key) (get_or st.held d []) y r
+            (subst (λ (k : model.Connection). Shows b s (get_or st.links d None) (get_or st.keys d no_key) (get_or st.held d []) k) (ap (λ (i : ℕ). get_or w.connections i model.Idle) e ∙ on) (h.links d)))
 
-        there : d ≢ c → Shows b s (get_or st.links d Idle) (get_or st.keys d no_key) (get_or st.held d []) (get_or w'.connections d model.Idle)
-        there ne = subst (λ (k : model.Connection). Shows b s (get_or st.links d Idle) (get_or st.keys d no_key) (get_or st.held d []) k)
+        there : d ≢ c → Shows b s (get_or st.links d None) (get_or st.keys d no_key) (get_or st.held d []) (get_or w'.connections d model.Idle)
+        there ne = subst (λ (k : model.Connection). Shows b s (get_or st.links d None) (get_or st.keys d no_key) (get_or st.held d []) k)
             (sym (ap (λ (k : List model.Connection). get_or k d model.Idle) qc ∙ get_or-set_other w.connections c d (model.Busy (world.answered r y)) model.Idle ne)) (h.links d)
 
 pub origin_so : (st : State) → OriginSo st
@@ -84,20 +85,20 @@ origin_so st b s w e (declines c reply) h = go (get_or w.connections c model.Idl
     go (model.Busy y) q = let t = it y q (world.is_unanswered y.answer) in record { stands = rw q t.0; delivered = rw q t.1 }
 
 -- what a turn of a request is to show
-abbrev AskTurn : Bodies → world.Setting → world.World → Ask → State → Turn Looked → Type 0
+abbrev AskTurn : Bodies → world.Setting → world.World → Ask → State → Turn (Result Looked RequestError) → Type 0
 AskTurn b s w a st t = StepSo b s t.state w (looked_events b s a t.gives t.state.keys) (looked_gives a t.gives st.slots)
 
 write_is : (o : Option (List ℕ)) → is_write (method_of o) ≡ is_some o
 write_is None = refl
 write_is (Some t) = refl
 
-is_idle_lem : (l : Link) → is_idle l ≡ true → l ≡ Idle
-is_idle_lem Idle h = refl
-is_idle_lem (Busy x) h = bad (cc)
+is_idle_lem : (l : Option Exchange) → is_idle l ≡ true → l ≡ None
+is_idle_lem None h = refl
+is_idle_lem (Some x) h = bad (cc)
 
-shows_idle : (b : Bodies) (s : world.Setting) (l : Link) (k : Key) (held : List ℕ) (conn : model.Connection) → l ≡ Idle → Shows b s l k held conn → conn ≡ model.Idle
-shows_idle b s Idle k held conn e h = h
-shows_idle b s (Busy x) k held conn e h = bad (cc)
+shows_idle : (b : Bodies) (s : world.Setting) (l : Option Exchange) (k : Key) (held : List ℕ) (conn : model.Connection) → l ≡ None → Shows b s l k held conn → conn ≡ model.Idle
+shows_idle b s None k held conn e h = h
+shows_idle b s (Some x) k held conn e h = bad (cc)
 
 forward_step : (s : world.Setting) (w : world.World) (c cl r l : ℕ) (m : model.Method) (v : model.Validator) (storable : Bool) → get_or w.connections c model.Idle ≡ model.Idle → ltb c 8 ≡ true →
     world.step s (world.Forward c cl r l m v storable) w ≡ world.forwards c (world.request w.next w.now cl r l m v storable) w
@@ -116,7 +117,7 @@ begins_so b s w knows a own tag body st h hold = go (can_forward knows (key_of a
     free x e = grind (arith, nat_tests)
 
     idle : free_link st < 8 → get_or w.connections (free_link st) model.Idle ≡ model.Idle
-    idle l = shows_idle b s (get_or st.links (free_link st) Idle) _ _ _ (is_idle_lem (get_or st.links (free_link st) Idle) (first_passes is_idle st.links Idle (omega (arith, h.eight)))) (h.links (free_link st))
+    idle l = shows_idle b s (get_or st.links (free_link st) None) _ _ _ (is_idle_lem (get_or st.links (free_link st) None) (first_passes is_idle st.links None (omega (arith, h.eight)))) (h.links (free_link st))
 
     new : model.Validator → model.Exchange
     new v = world.request w.next w.now a.client (number_of a.path) (number_of a.language) (method_of a.write) v a.storable
@@ -125,13 +126,13 @@ begins_so b s w knows a own tag body st h hold = go (can_forward knows (key_of a
     same v e = record { number = sym h.next; client = refl; resource = refl; language = refl; requested_at = sym h.tick; storable = refl; invalidated = refl; write = write_is a.write; validator = e; holds = hold }
 
     st' : State
-    st' = record { tick = st.tick; next = st.next + 1; links = set st.links c (Busy (begun st.next st.tick a own)); slots = st.slots; keys = set st.keys c (key_of a tag); held = set st.held c body }
+    st' = record { tick = st.tick; next = st.next + 1; links = set st.links c (Some (begun st.next st.tick a own)); slots = st.slots; keys = set st.keys c (key_of a tag); held = set st.held c body }
 
     after : free_link st < 8 → (v : model.Validator) → v ≡ validator_of b s (key_of a tag) → Stands b s st' (world.forwards c (new v) w)
     after l v e = record {
       tick = h.tick;
       next = ap (λ n. n + 1) h.next;
-      links = shows_begun b s st.links st.keys st.held w.connections h.eight h.eight_keys h.eight_held h.eight_connections h.links c l (Busy (begun st.next st.tick a own)) (key_of a tag) body (model.Busy (new v)) (new v, refl, same v e);
+      links = shows_begun b s st.links st.keys st.held w.connections h.eight h.eight_keys h.eight_held h.eight_connections h.links c l (Some (begun st.next st.tick a own)) (key_of a tag) body (model.Busy (new v)) (new v, refl, same v e);
       slots = h.slots;
       good = h.good;
       eight = length-set st.links c _ ∙ h.eight;
@@ -140,13 +141,13 @@ begins_so b s w knows a own tag body st h hold = go (can_forward knows (key_of a
       eight_connections = length-set w.connections c _ ∙ h.eight_connections;
     }
 
-    forwarded : free_link st < 8 → AskTurn b s w a st (turn st' (Forwarded c))
+    forwarded : free_link st < 8 → AskTurn b s w a st (turn st' (Ok (Forwarded c)))
     forwarded l = let v = validator_of b s (get_or (set st.keys c (key_of a tag)) c no_key) in
         let e : v ≡ validator_of b s (key_of a tag) = ap (validator_of b s) (get_or-set_same st.keys c (key_of a tag) no_key (omega (arith, h.eight_keys))) in
         let q = forward_step s w c a.client (number_of a.path) (number_of a.language) (method_of a.write) v a.storable (idle l) (lt-ltb c 8 l) in
         record { stands = subst (λ (z : world.World). Stands b s st' z) (sym q) (after l v e); delivered = ap (λ (z : world.World). z.delivered) q }
 
-    go : (x : Bool) → can_forward knows (key_of a tag) st ≡ x → AskTurn b s w a st (cond x (turn st' (Forwarded c)) (turn st Refused))
+    go : (x : Bool) → can_forward knows (key_of a tag) st ≡ x → AskTurn b s w a st (cond x (turn st' (Ok (Forwarded c))) (turn st (Err NoConnection)))
     go true e = forwarded (free _ e)
     go false e = record { stands = h; delivered = refl }
 
@@ -219,10 +220,10 @@ reads_at_so b s w knows a st i h f = go (get_or st.slots i Empty) refl
 pub ask_so : (knows : Knows) (a : Ask) (st : State) → AskSo knows a st
 ask_so knows a st b s w h = go (is_some a.write)
   where
-    from : (o : Option ℕ) → found (holds (is_for a.path a.language)) st.slots ≡ o → AskTurn b s w a st (reads_from knows a o st)
+    from : (o : Option ℕ) → position (holds (is_for a.path a.language)) st.slots ≡ o → AskTurn b s w a st (reads_from knows a o st)
     from None e = forwards_so b s w knows a st h
     from (Some i) e = reads_at_so b s w knows a st i h (found_passes (holds (is_for a.path a.language)) st.slots Empty i e).1
 
-    go : (x : Bool) → AskTurn b s w a st (cond x (forwards knows a st) (reads_from knows a (found (holds (is_for a.path a.language)) st.slots) st))
+    go : (x : Bool) → AskTurn b s w a st (cond x (forwards knows a st) (reads_from knows a (position (holds (is_for a.path a.language)) st.slots) st))
     go true = forwards_so b s w knows a st h
-    go false = from (found (holds (is_for a.path a.language)) st.slots) refl
+    go false = from (position (holds (is_for a.path a.language)) st.slots) refl

@@ -1,9 +1,9 @@
 -- The example, by computing.
-use Rattle.std.proofs.Common.{◌≡◌, ℕ, false, cond, List, [], ◌∷◌, Some, refl, subst}
+use Rattle.std.proofs.Common.{◌≡◌, ℕ, false, cond, List, [], ◌∷◌, Some, refl, subst, None}
 use Rattle.std.specs.Str.{bytes_eq}
 use Rattle.cache.specs.Rules.{begins}
-use Rattle.cache.specs.Answers.{Full, NotModified, Done, room_for, full, marked_to, pinned_to, oldest_to}
-use Rattle.lists.specs.Firsts.{first}
+use Rattle.cache.specs.Answers.{Full, NotModified, Done, room_for, full, marked_to, is_pinned, oldest_to}
+use Rattle.std.specs.List.{position_or_len}
 use Rattle.model.specs.Exchanges as model
 use Rattle.model.specs.World as world
 use Rattle.refinement.specs.Numbers.{spread, number_of, text_of, is_even}
@@ -24,7 +24,7 @@ one_body : (t : List ℕ) → Some zeroth ≡ Some t → three ≡ cond (bytes_e
 one_body t e = let q : zeroth ≡ t = cc in subst (λ (z : List ℕ). three ≡ cond (bytes_eq z zeroth) three (4 ∷ [])) q refl
 
 pub exampled : Exampled
-unfolding run Honest begins room_for world.world spread number_of text_of is_even first full marked_to pinned_to oldest_to
+unfolding run Honest begins room_for world.world spread number_of text_of is_even full marked_to is_pinned oldest_to
 exampled = record {
   honest = (
     λ y on suits. subst (λ (z : model.Exchange). HonestTo terms.bodies (setting_in terms) z (NotModified words)) (is_it _ y on) refl,

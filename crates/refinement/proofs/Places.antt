@@ -3,14 +3,13 @@ use Rattle.std.proofs.Common.{◌≡◌, ℕ, zero, suc, ◌<◌, ◌≤◌, Boo
 use Rattle.std.proofs.lemmas.Slice.Eq.{bytes_eq-Decides}
 use Rattle.std.specs.Str.{bytes_eq}
 use Rattle.store.specs.declared.types.Row.{Row}
-use Rattle.lists.specs.Firsts.{first, found, any}
+use Rattle.std.proofs.lemmas.List.Folds.{list_any_at}
+use Rattle.std.specs.List.{position_or_len, position, list_any}
 use Rattle.store.specs.Slots.{Response, Slot, Empty, Filled, same_bool, is_for, of_path, is_tagged, otherwise, holds, without, with_row, row_of, tag_of, is_asked, is_empty}
 use Rattle.lists.proofs.Firsts.{first_here, first_later, found_passes}
 use Rattle.promise.proofs.Lists.{bad, get_set}
 use Rattle.refinement.proofs.Numbered.{bytes_same}
 use Rattle.cache.specs.declared.types.Exchange.{Exchange}
-use Rattle.cache.specs.declared.types.Link.{Link}
-use Rattle.cache.specs.declared.types.Link.TheVariants.{Idle, Busy}
 use Rattle.cache.specs.declared.types.Outcome.TheVariants.{Nobody}
 use Rattle.cache.specs.declared.types.Words.{Words}
 use Rattle.cache.specs.Rules.{State, Ask, Turn, turn, may_serve, key_of, can_forward, begins, forwards, revalidates, used_at, serves, reads_at, reads_from, requested}
@@ -37,18 +36,18 @@ in_range [] i r h = bad (cc)
 in_range (k ∷ ks) zero r h = omega arith
 in_range (k ∷ ks) (suc i) r h = let l = in_range ks i r h in omega arith
 
-first_before : (p : Slot → Bool) (ks : List Slot) (j : ℕ) → j < length ks → p (get_or ks j Empty) ≡ true → first p ks ≤ j
+first_before : (p : Slot → Bool) (ks : List Slot) (j : ℕ) → j < length ks → p (get_or ks j Empty) ≡ true → position_or_len p ks ≤ j
 first_before p [] j l h = absurd (omega arith)
 first_before p (k ∷ ks) zero l h = let q = first_here p k ks h in omega (arith, q)
 first_before p (k ∷ ks) (suc j) l h = go (p k) refl (first_before p ks j (omega arith) h)
   where
-    go : (b : Bool) → p k ≡ b → first p ks ≤ j → first p (k ∷ ks) ≤ suc j
+    go : (b : Bool) → p k ≡ b → position_or_len p ks ≤ j → position_or_len p (k ∷ ks) ≤ suc j
     go true e ih = let q = first_here p k ks e in omega (arith, q)
     go false e ih = let q = first_later p k ks e in omega (arith, q)
 
 -- where one passes, one is found
-found_some : (p : Slot → Bool) (ks : List Slot) (j : ℕ) → j < length ks → p (get_or ks j Empty) ≡ true → found p ks ≡ Some (first p ks)
-found_some p ks j l h = let f = first_before p ks j l h in ap (λ b. cond b (Some (first p ks)) None) (lt-ltb (first p ks) (length ks) (omega arith))
+found_some : (p : Slot → Bool) (ks : List Slot) (j : ℕ) → j < length ks → p (get_or ks j Empty) ≡ true → position p ks ≡ Some (position_or_len p ks)
+found_some p ks j l h = let f = first_before p ks j l h in ap (λ b. cond b (Some (position_or_len p ks)) None) (lt-ltb (position_or_len p ks) (length ks) (omega arith))
 
 pub one_without : (test : Response → Bool) (ks : List Slot) → OnePlace ks → OnePlace (map (without test) ks)
 one_without test ks u i j r q hi hj c = u i j r q (get-without test ks i r hi).0 (get-without test ks j q hj).0 c
@@ -96,12 +95,12 @@ abbrev Agree : List ℕ → Bool → List Slot → Type 0
 Agree path varies ks = (j : ℕ) (q : Response) → get_or ks j Empty ≡ Filled q → q.path ≡ path → q.row.varies ≡ varies
 
 agreed_all : (c : ℕ) (varies : Bool) (s : State) → OnePlace s.slots → OnePlace (agreed c varies s).slots × Agree (key_at c s).path varies (agreed c varies s).slots
-agreed_all c varies s u = go (any (holds (otherwise (key_at c s).path varies)) s.slots) refl
+agreed_all c varies s u = go (list_any (holds (otherwise (key_at c s).path varies)) s.slots) refl
   where
     path : List ℕ
     path = (key_at c s).path
 
-    none : any (holds (otherwise (key_at c s).path varies)) s.slots ≡ false → Agree (key_at c s).path varies s.slots
+    none : list_any (holds (otherwise (key_at c s).path varies)) s.slots ≡ false → Agree (key_at c s).path varies s.slots
     none e j q h p = same (r_varies q) varies (test (otherwise (key_at c s).path varies q) refl)
       where
         r_varies : Response → Bool
@@ -110,8 +109,8 @@ agreed_all c varies s u = go (any (holds (otherwise (key_at c s).path varies)) s
         test : (t : Bool) → otherwise (key_at c s).path varies q ≡ t → otherwise (key_at c s).path varies q ≡ false
         test false f = f
         test true f = let l = in_range s.slots j q h in
-            let b = first_before (holds (otherwise (key_at c s).path varies)) s.slots j l (ap (holds (otherwise (key_at c s).path varies)) h ∙ f) in
-            let z = ltb-false (first (holds (otherwise (key_at c s).path varies)) s.slots) (length s.slots) e in absurd (omega arith)
+            let b = list_any_at (holds (otherwise (key_at c s).path varies)) s.slots j Empty l (ap (holds (otherwise (key_at c s).path varies)) h ∙ f) in
+            bad (cc)
 
         same : (x y : Bool) → (bytes_eq q.path (key_at c s).path && not (same_bool x y)) ≡ false → x ≡ y
         same x y f = go (bytes_eq q.path (key_at c s).path) (bytes_equal q.path (key_at c s).path p) x y f
@@ -123,7 +122,7 @@ agreed_all c varies s u = go (any (holds (otherwise (key_at c s).path varies)) s
             go true z false true f = bad (cc)
             go false z x y f = bad (cc)
 
-    go : (b : Bool) → any (holds (otherwise (key_at c s).path varies)) s.slots ≡ b → OnePlace (cond b (record { tick = s.tick; next = s.next; links = s.links; slots = map (without (of_path (key_at c s).path)) s.slots; keys = s.keys; held = s.held }) s).slots × Agree (key_at c s).path varies (cond b (record { tick = s.tick; next = s.next; links = s.links; slots = map (without (of_path (key_at c s).path)) s.slots; keys = s.keys; held = s.held }) s).slots
+    go : (b : Bool) → list_any (holds (otherwise (key_at c s).path varies)) s.slots ≡ b → OnePlace (cond b (record { tick = s.tick; next = s.next; links = s.links; slots = map (without (of_path (key_at c s).path)) s.slots; keys = s.keys; held = s.held }) s).slots × Agree (key_at c s).path varies (cond b (record { tick = s.tick; next = s.next; links = s.links; slots = map (without (of_path (key_at c s).path)) s.slots; keys = s.keys; held = s.held }) s).slots
     go true e = (one_without (of_path (key_at c s).path) s.slots u, λ j q h p. let z = (get-without (of_path (key_at c s).path) s.slots j q h).1 in let t = bytes_equal q.path (key_at c s).path p in bad (cc))
     go false e = (u, none e)
 
@@ -137,7 +136,7 @@ room_alone c varies s r i u agree rp rl rv room j q hq rivals = at (get_or s.slo
     p = holds (is_for (key_at c s).path (key_at c s).language)
 
     k : ℕ
-    k = first (holds (is_for (key_at c s).path (key_at c s).language)) s.slots
+    k = position_or_len (holds (is_for (key_at c s).path (key_at c s).language)) s.slots
 
     q_path : q.path ≡ (key_at c s).path
     q_path = sym rivals.path ∙ rp
@@ -148,11 +147,11 @@ room_alone c varies s r i u agree rp rl rv room j q hq rivals = at (get_or s.slo
     q_for : is_for (key_at c s).path (key_at c s).language q ≡ true
     q_for = for_from (key_at c s).path (key_at c s).language q q_path (λ f. sym (rivals.language (rv ∙ (sym q_varies ∙ f)) f) ∙ rl)
 
-    here : found p s.slots ≡ Some k
+    here : position p s.slots ≡ Some k
     here = found_some p s.slots j (in_range s.slots j q hq) (ap p hq ∙ q_for)
 
     same : i ≡ k
-    same = let z : Some k ≡ Some i = sym (ap (λ (o : Option ℕ). or_else o (or_else (found is_empty s.slots) (or_else (found (is_spent s) s.slots) (oldest_to (length s.slots) s)))) here) ∙ room in (let e : k ≡ i = cc in sym e)
+    same = let z : Some k ≡ Some i = sym (ap (λ (o : Option ℕ). or_else o (or_else (position is_empty s.slots) (or_else (position (is_spent s) s.slots) (oldest_to (length s.slots) s)))) here) ∙ room in (let e : k ≡ i = cc in sym e)
 
     at : (o : Slot) → get_or s.slots k Empty ≡ o → p (get_or s.slots k Empty) ≡ true → i ≡ j
     at Empty e f = let z = ap p e in bad (cc)
@@ -183,7 +182,7 @@ unfolding full
 full_one fits c x varies tag body w s u = go w.private (agreed_all c varies s u)
   where
     key_same : (key_at c (agreed c varies s)).path ≡ (key_at c s).path
-    key_same = it (any (holds (otherwise (key_at c s).path varies)) s.slots)
+    key_same = it (list_any (holds (otherwise (key_at c s).path varies)) s.slots)
       where
         it : (b : Bool) → (key_at c (cond b (record { tick = s.tick; next = s.next; links = s.links; slots = map (without (of_path (key_at c s).path)) s.slots; keys = s.keys; held = s.held }) s)).path ≡ (key_at c s).path
         it true = refl
@@ -208,9 +207,9 @@ renewed_one c (Some i) x w s u = at (get_or s.slots i Empty) refl
 same_one : (c : ℕ) (x : Exchange) (w : Words) (s : State) → OnePlace s.slots → OnePlace (not_modified c x w s).slots
 same_one c x w s u = go w.private (may_store x w)
   where
-    go : (p b : Bool) → OnePlace (cond p (record { tick = s.tick; next = s.next; links = s.links; slots = map (without (is_for (key_at c s).path (key_at c s).language)) s.slots; keys = s.keys; held = s.held }) (cond b (renewed_at c (found (holds (is_for (key_at c s).path (key_at c s).language)) s.slots) x w s) s)).slots
+    go : (p b : Bool) → OnePlace (cond p (record { tick = s.tick; next = s.next; links = s.links; slots = map (without (is_for (key_at c s).path (key_at c s).language)) s.slots; keys = s.keys; held = s.held }) (cond b (renewed_at c (position (holds (is_for (key_at c s).path (key_at c s).language)) s.slots) x w s) s)).slots
     go true b = one_without (is_for (key_at c s).path (key_at c s).language) s.slots u
-    go false true = renewed_one c (found (holds (is_for (key_at c s).path (key_at c s).language)) s.slots) x w s u
+    go false true = renewed_one c (position (holds (is_for (key_at c s).path (key_at c s).language)) s.slots) x w s u
     go false false = u
 
 given_up_one : (c : ℕ) (x : Exchange) (s : State) → OnePlace s.slots → OnePlace (given_up c x s).slots
@@ -225,7 +224,7 @@ one_cond true t z u v = u
 one_cond false t z u v = v
 
 pub received_one : (fits : Fits) (c : ℕ) (r : Reply) (s : State) → OnePlace s.slots → OnePlace (received fits c r s).state.slots
-received_one fits c r s u = go (ltb c 8) (get_or s.links c Idle)
+received_one fits c r s u = go (ltb c 8) (get_or s.links c None)
   where
     read : (x : Exchange) (r : Reply) → OnePlace (read_answered fits c x r s).state.slots
     read x (Full varies tag body w) = full_one fits c x varies tag body w (ended_at c s) u
@@ -247,21 +246,21 @@ received_one fits c r s u = go (ltb c 8) (get_or s.links c Idle)
     busy x true = write x r
     busy x false = read x r
 
-    on : (l : Link) → OnePlace (answered_on fits c l r s).state.slots
-    on Idle = u
-    on (Busy x) = busy x x.write
+    on : (l : Option Exchange) → OnePlace (answered_on fits c l r s).state.slots
+    on None = u
+    on (Some x) = busy x x.write
 
-    go : (b : Bool) (l : Link) → OnePlace (cond b (answered_on fits c l r s) (turn s Nobody)).state.slots
+    go : (b : Bool) (l : Option Exchange) → OnePlace (cond b (answered_on fits c l r s) (turn s Nobody)).state.slots
     go b l = one_cond b (answered_on fits c l r s) (turn s Nobody) (on l) u
 
 pub lost_one : (c : ℕ) (s : State) → OnePlace s.slots → OnePlace (lost c s).state.slots
-lost_one c s u = go (ltb c 8) (get_or s.links c Idle)
+lost_one c s u = go (ltb c 8) (get_or s.links c None)
   where
-    on : (l : Link) → OnePlace (lost_on c l s).state.slots
-    on Idle = u
-    on (Busy x) = given_up_one c x s u
+    on : (l : Option Exchange) → OnePlace (lost_on c l s).state.slots
+    on None = u
+    on (Some x) = given_up_one c x s u
 
-    go : (b : Bool) (l : Link) → OnePlace (cond b (lost_on c l s) (turn s Nobody)).state.slots
+    go : (b : Bool) (l : Option Exchange) → OnePlace (cond b (lost_on c l s) (turn s Nobody)).state.slots
     go b l = one_cond b (lost_on c l s) (turn s Nobody) (on l) u
 
 pub requested_one : (knows : Knows) (a : Ask) (s : State) → OnePlace s.slots → OnePlace (requested knows a s).state.slots
@@ -288,6 +287,6 @@ requested_one knows a s u = go (is_some a.write)
     from None = begun true a.tag []
     from (Some i) = at i (get_or s.slots i Empty) refl
 
-    go : (b : Bool) → OnePlace (cond b (forwards knows a s) (reads_from knows a (found (holds (is_for a.path a.language)) s.slots) s)).state.slots
+    go : (b : Bool) → OnePlace (cond b (forwards knows a s) (reads_from knows a (position (holds (is_for a.path a.language)) s.slots) s)).state.slots
     go true = begun true a.tag []
-    go false = from (found (holds (is_for a.path a.language)) s.slots)
+    go false = from (position (holds (is_for a.path a.language)) s.slots)

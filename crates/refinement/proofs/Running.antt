@@ -1,8 +1,7 @@
 -- Every honest run keeps the promise.
-use Rattle.std.proofs.Common.{◌≡◌, ℕ, zero, suc, ◌+◌, Bool, true, false, cond, ◌&&◌, ltb, List, [], ◌∷◌, ◌++◌, map, get_or, set, replicate, sym, refl, ap, ◌∙◌, subst, ⊎_elim, length-set, get_or-set_other}
+use Rattle.std.proofs.Common.{◌≡◌, ℕ, zero, suc, ◌+◌, Bool, true, false, cond, ◌&&◌, ltb, List, [], ◌∷◌, ◌++◌, map, get_or, set, replicate, sym, refl, ap, ◌∙◌, subst, ⊎_elim, length-set, get_or-set_other, Some, None, Option}
 use Rattle.store.specs.Slots.{Response, Empty, Filled, Key, no_key}
-use Rattle.cache.specs.declared.types.Link.{Link}
-use Rattle.cache.specs.declared.types.Link.TheVariants.{Idle, Busy}
+use Rattle.cache.specs.declared.types.Exchange.{Exchange}
 use Rattle.cache.specs.Rules.{State, can_tick, ticked, is_idle, released}
 use Rattle.cache.specs.Decisions.{OnePlace}
 use Rattle.refinement.proofs.Places.{requested_one, received_one, lost_one}
@@ -28,15 +27,15 @@ unfolding AllGood
 empty_good b s zero = tt
 empty_good b s (suc n) = empty_good b s n
 
-idle_shows : (b : Bodies) (s : world.Setting) (l : Link) (k : Key) (held : List ℕ) (c : model.Connection) → l ≡ Idle → c ≡ model.Idle → Shows b s l k held c
-idle_shows b s Idle k held c p q = q
-idle_shows b s (Busy x) k held c p q = bad (cc)
+idle_shows : (b : Bodies) (s : world.Setting) (l : Option Exchange) (k : Key) (held : List ℕ) (c : model.Connection) → l ≡ None → c ≡ model.Idle → Shows b s l k held c
+idle_shows b s None k held c p q = q
+idle_shows b s (Some x) k held c p q = bad (cc)
 
 pub start_stands : (t : Terms) → Stands t.bodies (setting_in t) (fresh t) (world.start (setting_in t))
 start_stands t = record {
   tick = refl;
   next = refl;
-  links = λ c. idle_shows t.bodies (setting_in t) _ _ _ _ (get_replicate 8 c Idle) (get_replicate 8 c model.Idle);
+  links = λ c. idle_shows t.bodies (setting_in t) _ _ _ _ (get_replicate 8 c None) (get_replicate 8 c model.Idle);
   slots = empty_slots t.places;
   good = empty_good t.bodies (setting_in t) t.places;
   eight = refl;
@@ -47,24 +46,24 @@ start_stands t = record {
 
 -- what is held for an idle connection is nobody's
 pub release_stands : (b : Bodies) (s : world.Setting) (c : ℕ) (st : State) (w : world.World) → Stands b s st w → Stands b s (released c st) w
-release_stands b s c st w h = go (ltb c 8 && is_idle (get_or st.links c Idle)) refl
+release_stands b s c st w h = go (ltb c 8 && is_idle (get_or st.links c None)) refl
   where
-    idle : (x : Bool) (l : Link) → (x && is_idle l) ≡ true → l ≡ Idle
-    idle true Idle e = refl
-    idle true (Busy y) e = bad (cc)
+    idle : (x : Bool) (l : Option Exchange) → (x && is_idle l) ≡ true → l ≡ None
+    idle true None e = refl
+    idle true (Some y) e = bad (cc)
     idle false l e = bad (cc)
 
-    any_held : (l : Link) (k : Key) (x y : List ℕ) (conn : model.Connection) → l ≡ Idle → Shows b s l k x conn → Shows b s l k y conn
-    any_held Idle k x y conn e z = z
-    any_held (Busy q) k x y conn e z = bad (cc)
+    any_held : (l : Option Exchange) (k : Key) (x y : List ℕ) (conn : model.Connection) → l ≡ None → Shows b s l k x conn → Shows b s l k y conn
+    any_held None k x y conn e z = z
+    any_held (Some q) k x y conn e z = bad (cc)
 
-    links : get_or st.links c Idle ≡ Idle → (d : ℕ) → Shows b s (get_or st.links d Idle) (get_or st.keys d no_key) (get_or (set st.held c []) d []) (get_or w.connections d model.Idle)
-    links e d = ⊎_elim (λ q. any_held (get_or st.links d Idle) _ (get_or st.held d []) _ _ (ap (λ (i : ℕ). get_or st.links i Idle) q ∙ e) (h.links d))
-        (λ ne. subst (λ (z : List ℕ). Shows b s (get_or st.links d Idle) (get_or st.keys d no_key) z (get_or w.connections d model.Idle)) (sym (get_or-set_other st.held c d [] [] ne)) (h.links d)) (same_or_not d c)
+    links : get_or st.links c None ≡ None → (d : ℕ) → Shows b s (get_or st.links d None) (get_or st.keys d no_key) (get_or (set st.held c []) d []) (get_or w.connections d model.Idle)
+    links e d = ⊎_elim (λ q. any_held (get_or st.links d None) _ (get_or st.held d []) _ _ (ap (λ (i : ℕ). get_or st.links i None) q ∙ e) (h.links d))
+        (λ ne. subst (λ (z : List ℕ). Shows b s (get_or st.links d None) (get_or st.keys d no_key) z (get_or w.connections d model.Idle)) (sym (get_or-set_other st.held c d [] [] ne)) (h.links d)) (same_or_not d c)
 
-    go : (x : Bool) → (ltb c 8 && is_idle (get_or st.links c Idle)) ≡ x → Stands b s (cond x (record { tick = st.tick; next = st.next; links = st.links; slots = st.slots; keys = st.keys; held = set st.held c [] }) st) w
+    go : (x : Bool) → (ltb c 8 && is_idle (get_or st.links c None)) ≡ x → Stands b s (cond x (record { tick = st.tick; next = st.next; links = st.links; slots = st.slots; keys = st.keys; held = set st.held c [] }) st) w
     go false e = h
-    go true e = record { tick = h.tick; next = h.next; links = links (idle (ltb c 8) (get_or st.links c Idle) e); slots = h.slots; good = h.good; eight = h.eight; eight_keys = h.eight_keys; eight_held = length-set st.held c [] ∙ h.eight_held; eight_connections = h.eight_connections }
+    go true e = record { tick = h.tick; next = h.next; links = links (idle (ltb c 8) (get_or st.links c None) e); slots = h.slots; good = h.good; eight = h.eight; eight_keys = h.eight_keys; eight_held = length-set st.held c [] ∙ h.eight_held; eight_connections = h.eight_connections }
 
 -- one more happening
 abbrev Holds : Terms → Run → Type 0
@@ -101,7 +100,7 @@ ticked_slots st = go (can_tick st)
     go false = refl
 
 released_slots : (c : ℕ) (st : State) → (released c st).slots ≡ st.slots
-released_slots c st = go (ltb c 8 && is_idle (get_or st.links c Idle))
+released_slots c st = go (ltb c 8 && is_idle (get_or st.links c None))
   where
     go : (x : Bool) → (cond x (record { tick = st.tick; next = st.next; links = st.links; slots = st.slots; keys = st.keys; held = set st.held c [] }) st).slots ≡ st.slots
     go true = refl

@@ -19,8 +19,6 @@ use Rattle.std.specs.Prelude.{◌≡◌, ℕ, Bool, true, false, cond, List, [],
 use Rattle.store.specs.Slots.{Response, Slot, Empty, Filled, Key, no_key}
 use Rattle.cache.specs.declared.types.Words.{Words}
 use Rattle.cache.specs.declared.types.Exchange.{Exchange}
-use Rattle.cache.specs.declared.types.Link.{Link}
-use Rattle.cache.specs.declared.types.Link.TheVariants.{Idle, Busy}
 use Rattle.cache.specs.Rules.{State}
 use Rattle.cache.specs.Answers.{Reply, Full, NotModified, Done, Other}
 use Rattle.model.specs.Exchanges as model
@@ -78,14 +76,14 @@ pub record Same (b : ℕ → ℕ → List ℕ → List ℕ) (s : world.Setting) 
   pub validator : y.validator ≡ validator_of b s k
   pub holds : x.own_tag ≡ false → (t : List ℕ) × (k.tag ≡ Some t) × (held ≡ b (number_of k.path) (key_language s k) t)
 
-abbrev pub Shows : (ℕ → ℕ → List ℕ → List ℕ) → world.Setting → Link → Key → List ℕ → model.Connection → Type 0
-Shows b s Idle k held c = c ≡ model.Idle
-Shows b s (Busy x) k held c = (y : model.Exchange) × (c ≡ model.Busy y) × Same b s x k held y
+abbrev pub Shows : (ℕ → ℕ → List ℕ → List ℕ) → world.Setting → Option Exchange → Key → List ℕ → model.Connection → Type 0
+Shows b s None k held c = c ≡ model.Idle
+Shows b s (Some x) k held c = (y : model.Exchange) × (c ≡ model.Busy y) × Same b s x k held y
 
 pub record Stands (b : ℕ → ℕ → List ℕ → List ℕ) (s : world.Setting) (st : State) (w : world.World) : Type 0 where
   pub tick : st.tick ≡ w.now
   pub next : st.next ≡ w.next
-  pub links : (c : ℕ) → Shows b s (slice_index_or st.links c Idle) (slice_index_or st.keys c no_key) (slice_index_or st.held c []) (slice_index_or w.connections c model.Idle)
+  pub links : (c : ℕ) → Shows b s (slice_index_or st.links c None) (slice_index_or st.keys c no_key) (slice_index_or st.held c []) (slice_index_or w.connections c model.Idle)
   pub slots : map slot_of st.slots ≡ w.slots
   pub good : AllGood b s st.slots
   pub eight : length st.links ≡ 8

@@ -9,15 +9,14 @@
 --                 after, and what the world delivers is what the clients are given
 --
 -- Assumes nothing.
-use Rattle.std.specs.Prelude.{◌≡◌, ℕ, Bool, true, false, cond, not, ◌&&◌, List, [], ◌∷◌, ◌++◌, is_some, Some, None, Option, slice_index_or}
+use Rattle.std.specs.Prelude.{◌≡◌, ℕ, Bool, true, false, cond, not, ◌&&◌, List, [], ◌∷◌, ◌++◌, is_some, Some, None, Option, Ok, Err, Result, slice_index_or}
 use Rattle.std.specs.Option.{unwrap_or}
-use Rattle.lists.specs.Firsts.{found}
+use Rattle.std.specs.List.{position}
 use Rattle.store.specs.Slots.{Slot, Empty, Key, no_key, is_for, is_asked, holds, tag_of, body_of}
 use Rattle.cache.specs.declared.types.Exchange.{Exchange}
-use Rattle.cache.specs.declared.types.Link.{Link}
-use Rattle.cache.specs.declared.types.Link.TheVariants.{Idle, Busy}
 use Rattle.cache.specs.declared.types.Looked.{Looked}
-use Rattle.cache.specs.declared.types.Looked.TheVariants.{Served, Forwarded, Refused}
+use Rattle.cache.specs.declared.types.Looked.TheVariants.{Served, Forwarded}
+use Rattle.cache.specs.declared.types.RequestError.{RequestError}
 use Rattle.cache.specs.declared.types.Outcome.{Outcome}
 use Rattle.cache.specs.declared.types.Outcome.TheVariants.{Nobody, Passed, Held, Fault, Lost}
 use Rattle.cache.specs.Rules.{State, Ask, can_tick, ticked, requested}
@@ -35,19 +34,19 @@ abbrev pub method_of : Option (List ℕ) → model.Method
 method_of None = model.Read
 method_of (Some t) = model.Write (number_of t)
 
-abbrev pub looked_events : (ℕ → ℕ → List ℕ → List ℕ) → world.Setting → Ask → Looked → List Key → List world.Event
-looked_events b s a (Served i) keys = world.Serve a.client (number_of a.path) (number_of a.language) i ∷ []
-looked_events b s a (Forwarded c) keys = world.Forward c a.client (number_of a.path) (number_of a.language) (method_of a.write) (validator_of b s (slice_index_or keys c no_key)) a.storable ∷ []
-looked_events b s a Refused keys = []
+abbrev pub looked_events : (ℕ → ℕ → List ℕ → List ℕ) → world.Setting → Ask → Result Looked RequestError → List Key → List world.Event
+looked_events b s a (Ok (Served i)) keys = world.Serve a.client (number_of a.path) (number_of a.language) i ∷ []
+looked_events b s a (Ok (Forwarded c)) keys = world.Forward c a.client (number_of a.path) (number_of a.language) (method_of a.write) (validator_of b s (slice_index_or keys c no_key)) a.storable ∷ []
+looked_events b s a (Err e) keys = []
 
 -- what a request asks with is in the keys after it
 abbrev pub ask_events : (List ℕ → List ℕ → Option (List ℕ) → Bool) → (ℕ → ℕ → List ℕ → List ℕ) → world.Setting → Ask → State → List world.Event
 ask_events knows b s a st = looked_events b s a (requested knows a st).gives (requested knows a st).state.keys
 
-abbrev pub looked_gives : Ask → Looked → List Slot → List world.Delivery
-looked_gives a (Served i) ks = world.served a.client (number_of a.path) (number_of a.language) (text_of (tag_of (slice_index_or ks i Empty)) (body_of (slice_index_or ks i Empty))) ∷ []
-looked_gives a (Forwarded c) ks = []
-looked_gives a Refused ks = []
+abbrev pub looked_gives : Ask → Result Looked RequestError → List Slot → List world.Delivery
+looked_gives a (Ok (Served i)) ks = world.served a.client (number_of a.path) (number_of a.language) (text_of (tag_of (slice_index_or ks i Empty)) (body_of (slice_index_or ks i Empty))) ∷ []
+looked_gives a (Ok (Forwarded c)) ks = []
+looked_gives a (Err e) ks = []
 
 abbrev pub ask_gives : (List ℕ → List ℕ → Option (List ℕ) → Bool) → Ask → State → List world.Delivery
 ask_gives knows a st = looked_gives a (requested knows a st).gives st.slots
@@ -57,7 +56,7 @@ abbrev pub room_at : ℕ → Bool → State → Option ℕ
 room_at c varies st = room_for c (agreed c varies (ended_at c st))
 
 abbrev pub place_for : ℕ → State → Option ℕ
-place_for c st = found (holds (is_for (key_at c st).path (key_at c st).language)) st.slots
+place_for c st = position (holds (is_for (key_at c st).path (key_at c st).language)) st.slots
 
 abbrev pub asks_there : ℕ → State → Option ℕ → Bool
 asks_there c st None = false
@@ -75,16 +74,16 @@ place_at c (NotModified w) st = unwrap_or (place_for c st) 0
 place_at c (Done body) st = 0
 place_at c (Other body) st = 0
 
-abbrev pub outcome_events : (Option (List ℕ) → List ℕ → Bool) → ℕ → Link → Reply → Outcome → State → List world.Event
-outcome_events fits c Idle r o st = []
-outcome_events fits c (Busy x) r Nobody st = []
-outcome_events fits c (Busy x) r (Passed client) st = world.Receive c (stores_at fits c x r st) (place_at c r st) ∷ []
-outcome_events fits c (Busy x) r (Held client) st = world.Receive c (stores_at fits c x r st) (place_at c r st) ∷ []
-outcome_events fits c (Busy x) r (Fault client) st = world.Lose c ∷ []
-outcome_events fits c (Busy x) r (Lost client) st = world.Lose c ∷ []
+abbrev pub outcome_events : (Option (List ℕ) → List ℕ → Bool) → ℕ → Option Exchange → Reply → Outcome → State → List world.Event
+outcome_events fits c None r o st = []
+outcome_events fits c (Some x) r Nobody st = []
+outcome_events fits c (Some x) r (Passed client) st = world.Receive c (stores_at fits c x r st) (place_at c r st) ∷ []
+outcome_events fits c (Some x) r (Held client) st = world.Receive c (stores_at fits c x r st) (place_at c r st) ∷ []
+outcome_events fits c (Some x) r (Fault client) st = world.Lose c ∷ []
+outcome_events fits c (Some x) r (Lost client) st = world.Lose c ∷ []
 
 abbrev pub answer_events : (Option (List ℕ) → List ℕ → Bool) → ℕ → Reply → State → List world.Event
-answer_events fits c r st = outcome_events fits c (slice_index_or st.links c Idle) r (received fits c r st).gives st
+answer_events fits c r st = outcome_events fits c (slice_index_or st.links c None) r (received fits c r st).gives st
 
 abbrev pub content_of : (ℕ → ℕ → List ℕ → List ℕ) → world.Setting → Key → Reply → world.Content
 content_of b s k (Full varies tag body w) = world.Text (text_of tag body)
@@ -96,30 +95,30 @@ abbrev pub delivery_of : Exchange → Key → world.Content → world.Delivery
 delivery_of x k content = record { client = x.client; exchange = x.number; resource = number_of k.path; language = number_of k.language; content = content }
 
 -- 'not modified' that is passed says: what you hold; what is held is given in full
-abbrev pub outcome_gives : (ℕ → ℕ → List ℕ → List ℕ) → world.Setting → ℕ → Link → Reply → Outcome → State → List world.Delivery
-outcome_gives b s c Idle r o st = []
-outcome_gives b s c (Busy x) r Nobody st = []
-outcome_gives b s c (Busy x) r (Passed client) st = delivery_of x (key_at c st) (content_of b s (key_at c st) r) ∷ []
-outcome_gives b s c (Busy x) r (Held client) st = delivery_of x (key_at c st) (world.Text (text_of (key_at c st).tag (slice_index_or st.held c []))) ∷ []
-outcome_gives b s c (Busy x) r (Fault client) st = delivery_of x (key_at c st) world.Lost ∷ []
-outcome_gives b s c (Busy x) r (Lost client) st = delivery_of x (key_at c st) world.Lost ∷ []
+abbrev pub outcome_gives : (ℕ → ℕ → List ℕ → List ℕ) → world.Setting → ℕ → Option Exchange → Reply → Outcome → State → List world.Delivery
+outcome_gives b s c None r o st = []
+outcome_gives b s c (Some x) r Nobody st = []
+outcome_gives b s c (Some x) r (Passed client) st = delivery_of x (key_at c st) (content_of b s (key_at c st) r) ∷ []
+outcome_gives b s c (Some x) r (Held client) st = delivery_of x (key_at c st) (world.Text (text_of (key_at c st).tag (slice_index_or st.held c []))) ∷ []
+outcome_gives b s c (Some x) r (Fault client) st = delivery_of x (key_at c st) world.Lost ∷ []
+outcome_gives b s c (Some x) r (Lost client) st = delivery_of x (key_at c st) world.Lost ∷ []
 
 abbrev pub answer_gives : (Option (List ℕ) → List ℕ → Bool) → (ℕ → ℕ → List ℕ → List ℕ) → world.Setting → ℕ → Reply → State → List world.Delivery
-answer_gives fits b s c r st = outcome_gives b s c (slice_index_or st.links c Idle) r (received fits c r st).gives st
+answer_gives fits b s c r st = outcome_gives b s c (slice_index_or st.links c None) r (received fits c r st).gives st
 
-abbrev pub lost_events : ℕ → Link → List world.Event
-lost_events c Idle = []
-lost_events c (Busy x) = world.Lose c ∷ []
+abbrev pub lost_events : ℕ → Option Exchange → List world.Event
+lost_events c None = []
+lost_events c (Some x) = world.Lose c ∷ []
 
 abbrev pub lose_events : ℕ → State → List world.Event
-lose_events c st = lost_events c (slice_index_or st.links c Idle)
+lose_events c st = lost_events c (slice_index_or st.links c None)
 
-abbrev pub lost_gives : Link → Key → List world.Delivery
-lost_gives Idle k = []
-lost_gives (Busy x) k = delivery_of x k world.Lost ∷ []
+abbrev pub lost_gives : Option Exchange → Key → List world.Delivery
+lost_gives None k = []
+lost_gives (Some x) k = delivery_of x k world.Lost ∷ []
 
 abbrev pub lose_gives : ℕ → State → List world.Delivery
-lose_gives c st = lost_gives (slice_index_or st.links c Idle) (key_at c st)
+lose_gives c st = lost_gives (slice_index_or st.links c None) (key_at c st)
 
 -- it stands for the world after these events, in which these deliveries were added
 pub record StepSo (b : ℕ → ℕ → List ℕ → List ℕ) (s : world.Setting) (st : State) (w : world.World) (es : List world.Event) (ds : List world.Delivery) : Type 0 where

@@ -6,6 +6,6 @@ use Rattle.cache.proofs.types.Cache.room_for.Goals as goal
 pub returns : goal.returns
 returns g c = record {
   value = c.choose.ensures;
-  keeps = keeps_given c.args.c (state_of g.S.Store.slots g.S.Store.keys g.S.Store.held c.args.self.now) _ c.choose.ensures;
-  spares = spares_given c.args.c (state_of g.S.Store.slots g.S.Store.keys g.S.Store.held c.args.self.now) _ c.choose.ensures;
+  keeps = keeps_given c.args.c.number (state_of g.S.Store.view c.args.self.now) _ c.choose.ensures;
+  spares = spares_given c.args.c.number (state_of g.S.Store.view c.args.self.now) _ c.choose.ensures;
 }
