@@ -1,5 +1,5 @@
 -- A cache's decisions, in the subject's own words.
-use Rattle.std.proofs.Common.{◌≡◌, ℕ, zero, suc, Bool, true, false, cond, not, ◌&&◌, ◌||◌, ltb, List, [], ◌∷◌, length, get_or, is_some, Some, None, Option, Ok, Err, Result, sym, refl, ap, ◌∙◌, subst, arith, get_or-set_same}
+use Rattle.std.proofs.Common.{◌≡◌, ℕ, Bool, true, false, cond, not, ◌&&◌, ◌||◌, ltb, List, [], ◌∷◌, length, get_or, is_some, Some, None, Option, Ok, Err, Result, sym, refl, ap, ◌∙◌, subst, arith, get_or-set_same}
 use Rattle.store.specs.declared.types.Row.{Row}
 use Rattle.std.specs.List.{position, list_any, fold, range_with_len}
 use Rattle.store.specs.Slots.{Slot, Empty, is_for, holds, is_empty, row_of, tag_of}

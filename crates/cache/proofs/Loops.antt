@@ -1,9 +1,7 @@
 -- The definitions that count to a number, one step further: what a loop does in a turn.
-use Rattle.std.proofs.Common.{◌≡◌, ℕ, zero, suc, ◌+◌, ◌<◌, Bool, true, false, ◌||◌, nat_eq, eqb-true, subst, arith, List, None, Option, refl, ap, ◌∙◌, add-one}
-use Rattle.std.proofs.lemmas.Bool.{eqb-false}
-use Rattle.store.specs.Slots.{Slot, Key}
+use Rattle.std.proofs.Common.{◌≡◌, ℕ, ◌+◌, List, Option, refl, ap, ◌∙◌, add-one}
+use Rattle.store.specs.Slots.{Key}
 use Rattle.cache.specs.declared.types.Exchange.{Exchange}
-use Rattle.cache.specs.Rules.{State}
 use Rattle.cache.specs.Answers.{marked_at, marked_to}
 
 pub marked_none : (path : List ℕ) (keys : List Key) (links : List (Option Exchange)) → links ≡ marked_to 0 path keys links

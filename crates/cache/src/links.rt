@@ -5,7 +5,7 @@ ghost use Rattle.std.specs.Option.{option_map};
 ghost use Rattle.cache.specs.Answers.{is_reading, outdated, busy_on};
 ghost use Rattle.cache.specs.Rules.{is_idle};
 
-use crate::types::{Cache, Exchange};
+use crate::types::{Cache, Exchange, Pending};
 use store::types::Connection;
 
 impl<S> Cache<S> {
@@ -16,12 +16,16 @@ impl<S> Cache<S> {
         Connection::new(first_idle(&self.links)?)
     }
 
-    /// The connection of this number, with the exchange that is under way there.
-    pub(crate) fn under_way(&self, number: usize) -> Option<(Connection, Exchange)>
-        ensures { option_map (λ p. (p.0.number, p.1)) result ≡ busy_on number self.now.links }
+    /// What is under way on the connection of this number.
+    pub(crate) fn under_way(&self, number: usize) -> Option<Pending>
+        ensures { option_map (λ p. (p.connection.number, p.exchange)) result ≡ busy_on number self.now.links }
     {
-        let c = Connection::new(number)?;
-        Some((c, self.links[c.number]?))
+        let connection = Connection::new(number)?;
+        let exchange = self.links[connection.number]?;
+        Some(Pending {
+            connection,
+            exchange,
+        })
     }
 
     /// Is a read under way on a connection?

@@ -86,11 +86,11 @@ impl<S: Store> Cache<S> {
     fn is_pinned(&self, place: usize) -> bool
         ensures { result ≡ is_pinned (state_of S.view self.now) (slot_at place (S.view self.now.store)) }
     {
-        (0..CONNECTIONS).any(|number|
-            requires { number < 8 }
-        {
-            self.pins(Connection { number }, place)
-        })
+        (0..CONNECTIONS).any(
+            |number|
+                requires { number < 8 }
+            { self.pins(Connection { number }, place) },
+        )
     }
 
     /// Does the exchange on this connection?

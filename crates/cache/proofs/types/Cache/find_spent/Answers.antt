@@ -11,4 +11,4 @@ pub returns : goal.returns
 returns g c =
     let spent : ℕ → Bool = λ i. is_spent (state_of g.S.Store.view c.args.self.now) (slot_at i (g.S.Store.view c.args.self.now.store)) in
     found_is (is_spent (state_of g.S.Store.view c.args.self.now)) (g.S.Store.view c.args.self.now.store).slots Empty _ _ c.places.ensures
-        (first_from_Range _ _ _ _ (λ i. spent i ≡ true) (λ i. spent i ≡ false) c.find.ensures.ran (λ x q k. search rules) (λ x q k. search rules))
+    (first_from_Range _ _ _ _ (λ i. spent i ≡ true) (λ i. spent i ≡ false) c.find.ensures.ran (λ x q k. search rules) (λ x q k. search rules))
