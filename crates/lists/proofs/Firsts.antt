@@ -1,6 +1,9 @@
 -- Laws of the first element that passes a test, as a loop uses them.
-use Rattle.std.proofs.Common.{◌≡◌, ℕ, suc, ◌+◌, ◌<◌, ◌≤◌, Bool, true, false, cond, ltb, List, [], ◌∷◌, length, get_or, drop, Some, None, sym, refl, ap, ◌∙◌, subst, arith, ltb-true, le-ltb, lt-ltb}
-use Rattle.std.proofs.lemmas.List.{at_drop_more, at_drop_all}
+use Rattle.std.proofs.Common.{◌≡◌, ℕ, suc, ◌+◌, ◌<◌, ◌≤◌, Bool, true, false, ◌||◌, cond, ltb, List, [], ◌∷◌, map, length, get_or, drop, Some, None, sym, refl, ap, ◌∙◌, subst, arith, ltb-true, le-ltb, lt-ltb}
+use Rattle.std.proofs.lemmas.List.{at_drop_more, at_drop_all, length-map}
+use Rattle.std.proofs.lemmas.Bool.Decides.{nat_tests}
+use Rattle.std.specs.List.{position, position_or_len, list_any}
+use Rattle.std.proofs.lemmas.List.Recursion.{is_position_or_len}
 use Rattle.lists.specs.Firsts.{first, found, any}
 
 pub first_here : {X : Type 0} (p : X → Bool) (x : X) (xs : List X) → p x ≡ true → first p (x ∷ xs) ≡ 0
@@ -75,3 +78,28 @@ found_any p xs h = go (ltb (first p xs) (length xs)) refl h
     go : (b : Bool) → ltb (first p xs) (length xs) ≡ b → cond b (Some (first p xs)) None ≡ None → b ≡ false
     go true e q = absurd (let z : ◌≡◌ {A = ℕ} 0 1 = cc in omega arith)
     go false e q = refl
+
+-- the same in std's words, by which chains of iterators are proved; also of elements that stand for others
+pub first_is : {X : Type 0} (p : X → Bool) (xs : List X) → first p xs ≡ position_or_len p xs
+unfolding first
+first_is p xs = is_position_or_len (first p) p refl (λ x ys. ap (cond (p x) 0) (omega arith)) xs
+
+first_mapped : {X Y : Type 0} (p : Y → Bool) (view : X → Y) (xs : List X) → first p (map view xs) ≡ first (λ x. p (view x)) xs
+unfolding first
+first_mapped p view [] = refl
+first_mapped p view (x ∷ xs) = ap (λ n. cond (p (view x)) 0 (suc n)) (first_mapped p view xs)
+
+pub first_map : {X Y : Type 0} (p : Y → Bool) (view : X → Y) (xs : List X) → first p (map view xs) ≡ position_or_len (λ x. p (view x)) xs
+first_map p view xs = first_mapped p view xs ∙ first_is (λ x. p (view x)) xs
+
+pub any_is : {X : Type 0} (p : X → Bool) (xs : List X) → any p xs ≡ list_any p xs
+unfolding first
+any_is p [] = refl
+any_is p (x ∷ xs) = step (p x) (first p xs) (length xs) ∙ ap (λ b. p x || b) (any_is p xs)
+  where
+    step : (b : Bool) (m n : ℕ) → ltb (cond b 0 (suc m)) (suc n) ≡ (b || ltb m n)
+    step true m n = grind (arith, nat_tests)
+    step false m n = grind (arith, nat_tests)
+
+pub any_map : {X Y : Type 0} (p : Y → Bool) (view : X → Y) (xs : List X) → any p (map view xs) ≡ list_any (λ x. p (view x)) xs
+any_map p view xs = let f = first_map p view xs in let g = first_is (λ x. p (view x)) xs in let h = any_is (λ x. p (view x)) xs in let n = length-map xs view in cc
