@@ -1,5 +1,4 @@
 -- Lemmas on a store by value.
-pub mod Bytes
-pub mod Elements
-pub mod Searches
-pub mod Views
+pub mod Changes
+pub mod Shelves
+pub mod Shortness

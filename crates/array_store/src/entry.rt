@@ -24,13 +24,12 @@ impl Entry {
     pub fn asks_for(&self, stored: &Stored) -> bool
         ensures { result ≡ is_asked (key_of self.now) (response_of stored.now) }
     {
-        match &self.tag {
-            None => false,
-            Some(tag) => stored.is_tagged(
+        self.tag.as_ref().is_some_and(|tag| {
+            stored.is_tagged(
                 self.path.as_slice(),
                 self.language.as_slice(),
                 tag.as_slice(),
-            ),
-        }
+            )
+        })
     }
 }

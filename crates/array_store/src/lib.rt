@@ -3,7 +3,7 @@
 
 pub mod array;
 mod entry;
-mod place;
 mod places;
 mod short;
+mod stored;
 pub mod types;

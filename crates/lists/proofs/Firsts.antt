@@ -1,5 +1,5 @@
 -- Laws of the first element that passes a test.
-use Rattle.std.proofs.Common.{◌≡◌, ℕ, suc, ◌+◌, ◌<◌, ◌≤◌, Bool, true, false, cond, not, ◌||◌, ltb, ltb-true, ltb-false, le-ltb, lt-ltb, List, [], ◌∷◌, length, get_or, Some, None, Option, sym, refl, ap, ◌∙◌, arith}
+use Rattle.std.proofs.Common.{◌≡◌, ℕ, suc, ◌+◌, ◌<◌, ◌≤◌, Bool, true, false, cond, not, ◌||◌, ltb, ltb-true, ltb-false, le-ltb, lt-ltb, List, [], ◌∷◌, map, length, get_or, Some, None, Option, sym, refl, ap, ◌∙◌, arith}
 use Rattle.std.specs.List.{position_or_len, position, list_any}
 use Rattle.std.proofs.lemmas.List.Quantifiers.{position-Some}
 use Rattle.std.proofs.lemmas.List.Sums.{position_or_len_is}
@@ -54,3 +54,12 @@ found_any p xs h = go (ltb (position_or_len p xs) (length xs)) refl h
     go : (b : Bool) → ltb (position_or_len p xs) (length xs) ≡ b → cond b (Some (position_or_len p xs)) None ≡ None → list_any p xs ≡ false
     go true e q = absurd (let z : ◌≡◌ {A = ℕ} 0 1 = cc in omega arith)
     go false e q = none_passes p xs (ltb-false (position_or_len p xs) (length xs) e)
+
+-- of elements that stand for others
+pub first_map : {X Y : Type 0} (p : Y → Bool) (view : X → Y) (xs : List X) → position_or_len p (map view xs) ≡ position_or_len (λ x. p (view x)) xs
+first_map p view [] = refl
+first_map p view (x ∷ xs) = ap (λ n. cond (not (p (view x))) (1 + n) 0) (first_map p view xs)
+
+pub any_map : {X Y : Type 0} (p : Y → Bool) (view : X → Y) (xs : List X) → list_any p (map view xs) ≡ list_any (λ x. p (view x)) xs
+any_map p view [] = refl
+any_map p view (x ∷ xs) = ap (λ b. p (view x) || b) (any_map p view xs)
