@@ -3,16 +3,16 @@
 --   state_in      what a node remembers
 --   begun         what a new node remembers: 64 places, all free
 --   held_at       what is held for a connection
---   stored_at     1 where a place holds a response, 0 where it is free
 --   stored_before how many of the first places hold a response
 --   Ticked, Asked, Answered, Lost   from one state to another: for every world that the first stands for, the second
 --                 stands for the stepped world, and what the world delivers is what the clients are given
 --   NodeKeeps     any run of calls of a node, from a new one on, is as promised
 --
 -- Assumes nothing.
-use Rattle.std.specs.Prelude.{Bool, cond, List, [], ℕ, zero, suc, ◌+◌, ltb, get_or, replicate}
-use Rattle.store.specs.Slots.{Slot, Empty, Filled, no_key}
-use Rattle.array_store.specs.Places.{slots_of, keys_of, held_of}
+use Rattle.std.specs.Prelude.{Bool, cond, List, [], ℕ, nat_lt, slice_index_or, replicate, is_some, count_by}
+use Rattle.std.specs.List.{range_with_len}
+use Rattle.store.specs.Slots.{Slot, Empty, no_key, row_of}
+use Rattle.array_store.specs.Places.{shelf_of}
 use Rattle.array_store.specs.Shorts.{is_known, is_fitting}
 use Rattle.cache.specs.Rules.{State, Ask, state_of, started}
 use Rattle.cache.specs.Answers.{Reply}
@@ -23,22 +23,17 @@ use Rattle.refinement.specs.Runs.{Happening, Terms, Honest, Kept}
 use Rattle.node.specs.declared.types.Node.{Node}
 
 abbrev pub state_in : Node → State
-state_in n = state_of slots_of keys_of held_of n.cache
+state_in n = state_of shelf_of n.cache
 
 abbrev pub begun : State
 begun = started (replicate 64 Empty) (replicate 8 no_key) (replicate 8 [])
 
 -- what is held for a connection, if there is such a one
 abbrev pub held_at : ℕ → State → List ℕ
-held_at c st = cond (ltb c 8) (get_or st.held c []) []
+held_at c st = cond (nat_lt c 8) (slice_index_or st.held c []) []
 
-abbrev pub stored_at : Slot → ℕ
-stored_at Empty = 0
-stored_at (Filled r) = 1
-
-unfoldable pub stored_before : ℕ → List Slot → ℕ
-stored_before zero slots = 0
-stored_before (suc n) slots = stored_before n slots + stored_at (get_or slots n Empty)
+abbrev pub stored_before : ℕ → List Slot → ℕ
+stored_before n slots = count_by (λ i. is_some (row_of (slice_index_or slots i Empty))) (range_with_len 0 n)
 
 abbrev pub Ticked : State → State → Type 0
 Ticked st after = (b : ℕ → ℕ → List ℕ → List ℕ) (s : world.Setting) (w : world.World) → Stands b s st w → StepSo b s after w (tick_events st) []

@@ -1,5 +1,5 @@
 // The calls of a cache by value. None asks anything of its caller.
-ghost use Rattle.std.specs.Prelude.{get_or, ◌≡◌, ◌≤◌};
+ghost use Rattle.std.specs.Prelude.{◌≡◌, ◌≤◌, is_ok, slice_index_or};
 ghost use Rattle.array_store.specs.Shorts.{is_known, is_fitting};
 ghost use Rattle.cache.specs.Answers.{reply_of, received, lost};
 ghost use Rattle.cache.specs.Rules.{ask_of, can_tick, ticked, requested};
@@ -8,9 +8,8 @@ ghost use Rattle.store.specs.Slots.{Empty, row_of, body_of};
 
 use crate::types::Node;
 use array_store::types::{ArrayStore, PLACES};
-use cache::types::{Answer, CONNECTIONS, Cache, Looked, Outcome, Request};
-use store::store::Store;
-use store::types::Row;
+use cache::types::{Answer, Cache, ClockExhausted, Looked, Outcome, Request, RequestError};
+use store::types::{Connection, Row};
 
 impl Node {
     /// At tick 0, with nothing stored and nothing under way.
@@ -23,17 +22,17 @@ impl Node {
         }
     }
 
-    /// A second passes. False if it can't be counted any more.
-    pub fn pass_tick(&mut self) -> bool
+    /// A second passes, if it can be counted.
+    pub fn pass_tick(&mut self) -> Result<(), ClockExhausted>
         ensures state { state_in self.new ≡ ticked (state_in self.old) }
-        ensures gives { result ≡ can_tick (state_in self.old) }
+        ensures gives { is_ok result ≡ can_tick (state_in self.old) }
         ensures world { Ticked (state_in self.old) (state_in self.new) }
     {
         self.cache.pass_tick()
     }
 
     /// A client's request: served from the store, forwarded, or refused.
-    pub fn request(&mut self, request: Request<'_>) -> Looked
+    pub fn request(&mut self, request: Request<'_>) -> Result<Looked, RequestError>
         ensures state { state_in self.new ≡ (requested is_known (ask_of request.entry) (state_in self.old)).state }
         ensures gives { result ≡ (requested is_known (ask_of request.entry) (state_in self.old)).gives }
         ensures world { Asked (ask_of request.entry) (state_in self.old) (state_in self.new) }
@@ -61,14 +60,14 @@ impl Node {
 
     /// The body of what is stored at a place; empty where nothing is.
     pub fn body(&self, place: usize) -> &[u8]
-        ensures { result.now ≡ body_of (get_or (state_in self.now).slots place Empty) }
+        ensures { result.now ≡ body_of (slice_index_or (state_in self.now).slots place Empty) }
     {
         self.cache.body(place)
     }
 
     /// The numbers of what is stored at a place.
     pub fn row(&self, place: usize) -> Option<Row>
-        ensures { result ≡ row_of (get_or (state_in self.now).slots place Empty) }
+        ensures { result ≡ row_of (slice_index_or (state_in self.now).slots place Empty) }
     {
         self.cache.row(place)
     }
@@ -78,24 +77,16 @@ impl Node {
         ensures count { result ≡ stored_before 64 (state_in self.now).slots }
         ensures at_most { result ≤ 64 }
     {
-        let mut stored = 0usize;
-        for place in 0..PLACES {
-            if self.row(place).is_some() {
-                stored += 1;
-            }
-        }
-        stored
+        (0..PLACES)
+            .filter(|place| self.row(*place).is_some())
+            .count()
     }
 
     /// The body that is held for a connection; empty where nothing is.
     pub fn held(&self, c: usize) -> &[u8]
         ensures { result.now ≡ held_at c (state_in self.now) }
     {
-        if c < CONNECTIONS {
-            self.cache.held(c)
-        } else {
-            &[]
-        }
+        Connection::new(c).map_or(&[], |c| self.cache.held(c))
     }
 
     /// How often the clock went on.
