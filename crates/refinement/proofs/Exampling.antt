@@ -1,9 +1,8 @@
 -- The example, by computing.
-use Rattle.std.proofs.Common.{◌≡◌, ℕ, false, cond, List, [], ◌∷◌, Some, refl, subst, None}
+use Rattle.std.proofs.Common.{◌≡◌, ℕ, false, cond, List, [], ◌∷◌, Some, refl, subst}
 use Rattle.std.specs.Str.{bytes_eq}
 use Rattle.cache.specs.Rules.{begins}
 use Rattle.cache.specs.Answers.{Full, NotModified, Done, room_for, full, marked_to, is_pinned, oldest_to}
-use Rattle.std.specs.List.{position_or_len}
 use Rattle.model.specs.Exchanges as model
 use Rattle.model.specs.World as world
 use Rattle.refinement.specs.Numbers.{spread, number_of, text_of, is_even}

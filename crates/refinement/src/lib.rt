@@ -5,22 +5,16 @@ ghost use Rattle.refinement.specs.Example.{Exampled};
 ghost use Rattle.refinement.specs.Runs.{CacheKeeps, CacheHasOnePlace};
 
 /// Any calls of a cache, with an honest origin that does what it likes: all that it gives its clients is as promised.
-pub fn cache_keeps_promise() -> bool
+pub fn cache_keeps_promise()
     ensures { CacheKeeps }
-{
-    true
-}
+{}
 
 /// Whatever happens, there is one place for a path and language.
-pub fn cache_has_one_place() -> bool
+pub fn cache_has_one_place()
     ensures { CacheHasOnePlace }
-{
-    true
-}
+{}
 
 /// There is an honest run with a miss, a hit, a write and a late answer, so that the promise of such runs is of something.
-pub fn honest_run_exists() -> bool
+pub fn honest_run_exists()
     ensures { Exampled }
-{
-    true
-}
+{}
