@@ -25,6 +25,13 @@ impl Connection {
     }
 }
 
+/// What is asked for, and what a response is stored under: a path, and the language that selects one of its responses.
+#[derive(Clone, Copy, Drop)]
+pub struct CacheKey<'a> {
+    pub path: &'a [u8],
+    pub language: &'a [u8],
+}
+
 /// The numbers of a stored response.
 #[derive(Clone, Copy)]
 pub struct Row {
