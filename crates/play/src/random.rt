@@ -1,8 +1,16 @@
 // Commands in random order, from a seed: the same seed gives the same commands.
-ghost use Rattle.std.specs.Prelude.{◌≡◌, ◌+◌, ◌%◌};
-ghost use Rattle.play.specs.Dice.{next_state, rolled, label_of, rolls_at};
+ghost use Rattle.std.specs.Prelude.{◌≡◌, ◌+◌, ◌%◌, [], IfOk, MatchOption, slice_get};
+ghost use Rattle.play.specs.Dice.{next_state, rolled, label_of, rolls_at, PlayedAs};
 
 use crate::types::{Command, Dice, Game, Rolls, ScriptError, Settings, Verb};
+
+const PATHS: [&[u8]; 4] = [b"/a", b"/b", b"/c", b"/d"];
+
+const LANGUAGES: [&[u8]; 3] = [b"sv", b"fi", b"en"];
+
+const CLIENTS: [&[u8]; 4] = [b"anna", b"bo", b"cleo", b"dan"];
+
+const DIGITS: [&[u8]; 8] = [b"0", b"1", b"2", b"3", b"4", b"5", b"6", b"7"];
 
 impl Dice {
     pub fn new(seed: u64) -> Dice
@@ -31,6 +39,7 @@ impl Game {
     /// So many commands in random order.
     pub fn play_random(&mut self, seed: u64, count: u64) -> Result<(), ScriptError>
         ensures none { count ≡ 0 → self.new ≡ self.old }
+        ensures steps { IfOk result (λ _. PlayedAs count self.old.counts self.old.broken self.new.counts self.new.broken) }
     {
         let mut dice = Dice::new(seed);
         for n in 0..count {
@@ -46,19 +55,13 @@ impl Game {
 fn label(n: u64) -> [u8; 5]
     ensures { result ≡ label_of n }
 {
-    [
-        digit(n / 10000),
-        digit(n / 1000),
-        digit(n / 100),
-        digit(n / 10),
-        digit(n),
-    ]
+    [n / 10000, n / 1000, n / 100, n / 10, n].map(digit)
 }
 
 fn digit(n: u64) -> u8
     ensures { result ≡ 48 + n % 10 }
 {
-    48 + (n % 10) as u8
+    b'0' + (n % 10) as u8
 }
 
 /// What a command is chosen by.
@@ -104,16 +107,18 @@ fn random_command<'a>(rolls: Rolls, label: &'a [u8], n: u64) -> Command<'a> {
 
 fn first_at(verb: Verb, rolls: Rolls) -> &'static [u8] {
     match verb {
-        Verb::Origin => path_at(rolls.path),
-        Verb::Get | Verb::Put | Verb::Delete => client_at(rolls.client),
-        Verb::Tick | Verb::Act | Verb::Decline | Verb::Receive | Verb::Lose | Verb::Random =>
-            digit_at(rolls.digit),
+        Verb::Origin => pick(&PATHS, rolls.path),
+        Verb::Get | Verb::Put | Verb::Delete => pick(&CLIENTS, rolls.client),
+        Verb::Tick | Verb::Act | Verb::Decline | Verb::Receive | Verb::Lose | Verb::Random => pick(
+            &DIGITS,
+            rolls.digit,
+        ),
     }
 }
 
 fn second_at(verb: Verb, rolls: Rolls) -> &'static [u8] {
     match verb {
-        Verb::Get | Verb::Put | Verb::Delete => path_at(rolls.path),
+        Verb::Get | Verb::Put | Verb::Delete => pick(&PATHS, rolls.path),
         Verb::Decline => b"503",
         Verb::Origin | Verb::Tick | Verb::Act | Verb::Receive | Verb::Lose | Verb::Random => b"",
     }
@@ -123,7 +128,7 @@ fn second_at(verb: Verb, rolls: Rolls) -> &'static [u8] {
 fn random_settings<'a>(rolls: Rolls, verb: Verb, label: &'a [u8], n: u64) -> Settings<'a> {
     let etag: &[u8] = if n % 3 == 0 { b"" } else { label };
     let said = Settings {
-        language: language_at(rolls.language),
+        language: pick(&LANGUAGES, rolls.language),
         ..Settings::unsaid()
     };
     match verb {
@@ -166,41 +171,9 @@ fn verb_at(n: u64) -> Verb {
     }
 }
 
-fn path_at(n: u64) -> &'static [u8] {
-    match n {
-        0 => b"/a",
-        1 => b"/b",
-        2 => b"/c",
-        _ => b"/d",
-    }
-}
-
-fn language_at(n: u64) -> &'static [u8] {
-    match n {
-        0 => b"sv",
-        1 => b"fi",
-        _ => b"en",
-    }
-}
-
-fn client_at(n: u64) -> &'static [u8] {
-    match n {
-        0 => b"anna",
-        1 => b"bo",
-        2 => b"cleo",
-        _ => b"dan",
-    }
-}
-
-fn digit_at(n: u64) -> &'static [u8] {
-    match n {
-        0 => b"0",
-        1 => b"1",
-        2 => b"2",
-        3 => b"3",
-        4 => b"4",
-        5 => b"5",
-        6 => b"6",
-        _ => b"7",
-    }
+/// The name with this number; empty past the last.
+fn pick(names: &[&'static [u8]], n: u64) -> &'static [u8]
+    ensures { MatchOption (slice_get names.now n) (result.now ≡ []) (λ name. result.now ≡ name.now) }
+{
+    names.get(n as usize).copied().unwrap_or(b"")
 }
