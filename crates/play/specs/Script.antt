@@ -12,7 +12,7 @@
 --   Said          what is said behind the subject, as bytes; said_of: of settings
 --   set_field     what is said, with one more setting
 --   settings_on   what is said with at most so many words more
---   Line          a line, as bytes; line_of: of a command
+--   Line          a line, as bytes; line_of: of a command; line_with: of a verb, with those of these words that it takes
 --   before_comment a line, as far as its comment
 --   parsed        what a line means: nothing, a command, or what is wrong with it
 --
@@ -28,6 +28,7 @@ use Rattle.play.specs.declared.types.Field.{Field}
 use Rattle.play.specs.declared.types.Field.TheVariants as field
 use Rattle.play.specs.declared.types.Settings.{Settings}
 use Rattle.play.specs.declared.types.Command.{Command}
+use Rattle.play.specs.declared.types.Command.TheVariants as command
 use Rattle.play.specs.declared.types.ScriptError.{ScriptError}
 use Rattle.play.specs.declared.types.ScriptError.TheVariants.{Unprintable, UnknownVerb, MissingWord, UnknownSetting, MisplacedSetting, ManyWords, NoNumber}
 
@@ -251,7 +252,28 @@ pub record Line : Type 0 where
   pub said : Said
 
 abbrev pub line_of : Command → Line
-line_of c = record { verb = c.verb; subject = c.first.now; second = c.second.now; said = said_of c.settings }
+line_of (command.Origin path settings) = record { verb = verb.Origin; subject = path.now; second = []; said = said_of settings }
+line_of (command.Tick seconds) = record { verb = verb.Tick; subject = seconds.now; second = []; said = unsaid }
+line_of (command.Get client path settings) = record { verb = verb.Get; subject = client.now; second = path.now; said = said_of settings }
+line_of (command.Put client path settings) = record { verb = verb.Put; subject = client.now; second = path.now; said = said_of settings }
+line_of (command.Delete client path settings) = record { verb = verb.Delete; subject = client.now; second = path.now; said = said_of settings }
+line_of (command.Act connection) = record { verb = verb.Act; subject = connection.now; second = []; said = unsaid }
+line_of (command.Decline connection status) = record { verb = verb.Decline; subject = connection.now; second = status.now; said = unsaid }
+line_of (command.Receive connection) = record { verb = verb.Receive; subject = connection.now; second = []; said = unsaid }
+line_of (command.Lose connection) = record { verb = verb.Lose; subject = connection.now; second = []; said = unsaid }
+line_of (command.Random seed count) = record { verb = verb.Random; subject = seed.now; second = count.now; said = unsaid }
+
+abbrev pub line_with : Verb → List ℕ → List ℕ → Said → Line
+line_with verb.Origin a b s = record { verb = verb.Origin; subject = a; second = []; said = s }
+line_with verb.Tick a b s = record { verb = verb.Tick; subject = a; second = []; said = unsaid }
+line_with verb.Get a b s = record { verb = verb.Get; subject = a; second = b; said = s }
+line_with verb.Put a b s = record { verb = verb.Put; subject = a; second = b; said = s }
+line_with verb.Delete a b s = record { verb = verb.Delete; subject = a; second = b; said = s }
+line_with verb.Act a b s = record { verb = verb.Act; subject = a; second = []; said = unsaid }
+line_with verb.Decline a b s = record { verb = verb.Decline; subject = a; second = b; said = unsaid }
+line_with verb.Receive a b s = record { verb = verb.Receive; subject = a; second = []; said = unsaid }
+line_with verb.Lose a b s = record { verb = verb.Lose; subject = a; second = []; said = unsaid }
+line_with verb.Random a b s = record { verb = verb.Random; subject = a; second = b; said = unsaid }
 
 abbrev pub seen_line : Option Command → Option Line
 seen_line None = None

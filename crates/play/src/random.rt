@@ -2,7 +2,7 @@
 ghost use Rattle.std.specs.Prelude.{◌≡◌, ◌+◌, ◌%◌, [], IfOk, MatchOption, slice_get};
 ghost use Rattle.play.specs.Dice.{next_state, rolled, label_of, rolls_at, PlayedAs};
 
-use crate::types::{Command, Dice, Game, Rolls, ScriptError, Settings, Verb};
+use crate::types::{Command, Dice, Game, Rolls, ScriptError, Settings};
 
 const PATHS: [&[u8]; 4] = [b"/a", b"/b", b"/c", b"/d"];
 
@@ -96,78 +96,77 @@ impl Rolls {
 }
 
 fn random_command<'a>(rolls: Rolls, label: &'a [u8], n: u64) -> Command<'a> {
-    let verb = verb_at(rolls.verb);
-    Command {
-        verb,
-        first: first_at(verb, rolls),
-        second: second_at(verb, rolls),
-        settings: random_settings(rolls, verb, label, n),
+    let client = pick(&CLIENTS, rolls.client);
+    let path = pick(&PATHS, rolls.path);
+    let digit = pick(&DIGITS, rolls.digit);
+    match rolls.verb {
+        0..=17 => Command::Get {
+            client,
+            path,
+            settings: rolls.asked(),
+        },
+        18..=21 => Command::Put {
+            client,
+            path,
+            settings: rolls.written(label, n),
+        },
+        22 => Command::Delete {
+            client,
+            path,
+            settings: rolls.in_language(),
+        },
+        23..=27 => Command::Origin {
+            path,
+            settings: rolls.had(label, n),
+        },
+        28..=58 => Command::Act { connection: digit },
+        59..=89 => Command::Receive { connection: digit },
+        90..=91 => Command::Lose { connection: digit },
+        92 => Command::Decline {
+            connection: digit,
+            status: b"503",
+        },
+        _ => Command::Tick { seconds: digit },
     }
 }
 
-fn first_at(verb: Verb, rolls: Rolls) -> &'static [u8] {
-    match verb {
-        Verb::Origin => pick(&PATHS, rolls.path),
-        Verb::Get | Verb::Put | Verb::Delete => pick(&CLIENTS, rolls.client),
-        Verb::Tick | Verb::Act | Verb::Decline | Verb::Receive | Verb::Lose | Verb::Random => pick(
-            &DIGITS,
-            rolls.digit,
-        ),
+impl Rolls {
+    fn in_language<'a>(self) -> Settings<'a> {
+        Settings {
+            language: pick(&LANGUAGES, self.language),
+            ..Settings::unsaid()
+        }
     }
-}
 
-fn second_at(verb: Verb, rolls: Rolls) -> &'static [u8] {
-    match verb {
-        Verb::Get | Verb::Put | Verb::Delete => pick(&PATHS, rolls.path),
-        Verb::Decline => b"503",
-        Verb::Origin | Verb::Tick | Verb::Act | Verb::Receive | Verb::Lose | Verb::Random => b"",
+    /// What a request says.
+    fn asked<'a>(self) -> Settings<'a> {
+        Settings {
+            no_store: self.coin == 0,
+            no_cache: self.coin == 1,
+            authorization: self.coin == 2,
+            ..self.in_language()
+        }
     }
-}
 
-/// The paths 0 and 1 vary. One label in three has no etag.
-fn random_settings<'a>(rolls: Rolls, verb: Verb, label: &'a [u8], n: u64) -> Settings<'a> {
-    let etag: &[u8] = if n % 3 == 0 { b"" } else { label };
-    let said = Settings {
-        language: pick(&LANGUAGES, rolls.language),
-        ..Settings::unsaid()
-    };
-    match verb {
-        Verb::Origin => Settings {
-            etag,
+    /// What a write brings. One label in three has no etag.
+    fn written<'a>(self, label: &'a [u8], n: u64) -> Settings<'a> {
+        Settings {
+            etag: if n % 3 == 0 { b"" } else { label },
             body: label,
-            max_age: rolls.max_age,
-            age: rolls.age,
-            private: rolls.coin == 0,
-            no_cache: rolls.coin == 1,
-            vary: rolls.path < 2,
-            ..said
-        },
-        Verb::Get => Settings {
-            no_store: rolls.coin == 0,
-            no_cache: rolls.coin == 1,
-            authorization: rolls.coin == 2,
-            ..said
-        },
-        Verb::Put => Settings {
-            etag,
-            body: label,
-            ..said
-        },
-        _ => said,
+            ..self.in_language()
+        }
     }
-}
 
-fn verb_at(n: u64) -> Verb {
-    match n {
-        0..=17 => Verb::Get,
-        18..=21 => Verb::Put,
-        22 => Verb::Delete,
-        23..=27 => Verb::Origin,
-        28..=58 => Verb::Act,
-        59..=89 => Verb::Receive,
-        90..=91 => Verb::Lose,
-        92 => Verb::Decline,
-        _ => Verb::Tick,
+    /// What the origin has and says. The paths 0 and 1 vary.
+    fn had<'a>(self, label: &'a [u8], n: u64) -> Settings<'a> {
+        Settings {
+            max_age: self.max_age,
+            age: self.age,
+            private: self.coin == 0,
+            no_cache: self.coin == 1,
+            vary: self.path < 2,
+            ..self.written(label, n)
+        }
     }
 }
 

@@ -1,7 +1,7 @@
 // What a line of a script says.
 ghost use Rattle.std.specs.Prelude.{◌≡◌, true};
 ghost use Rattle.std.specs.Option.{option_map};
-ghost use Rattle.play.specs.Script.{both, before_comment, cut_at, name_length, spelled_verb, spelled_field, verb_of, takes_two, field_of, may_stand, said_of, unsaid, seen_ok, set_field, with_word, settings_on, second_of, seen_line, parsed};
+ghost use Rattle.play.specs.Script.{both, before_comment, cut_at, name_length, spelled_verb, spelled_field, verb_of, takes_two, field_of, may_stand, said_of, unsaid, seen_ok, set_field, with_word, settings_on, second_of, line_of, line_with, seen_line, parsed};
 
 use crate::types::{Command, Field, MOST_SETTINGS, ScriptError, Settings, Verb};
 use crate::words::{any_odd, cut_word, first_of, number};
@@ -20,12 +20,7 @@ pub fn parse(line: &[u8]) -> Result<Option<Command<'_>>, ScriptError>
     let (first, behind) = cut_word(behind).ok_or(ScriptError::MissingWord)?;
     let (second, behind) = second_of(verb, behind)?;
     let settings = settings(verb, behind)?;
-    Ok(Some(Command {
-        verb,
-        first,
-        second,
-        settings,
-    }))
+    Ok(Some(Command::new(verb, first, second, settings)))
 }
 
 /// A line, as far as its comment.
@@ -61,6 +56,47 @@ fn settings(verb: Verb, text: &[u8]) -> Result<Settings<'_>, ScriptError>
         rest = behind;
     }
     Err(ScriptError::ManyWords)
+}
+
+impl<'a> Command<'a> {
+    /// A verb with those of these words that it takes.
+    fn new(verb: Verb, first: &'a [u8], second: &'a [u8], settings: Settings<'a>) -> Command<'a>
+        ensures { line_of result ≡ line_with verb first.now second.now (said_of settings.entry) }
+    {
+        match verb {
+            Verb::Origin => Command::Origin {
+                path: first,
+                settings,
+            },
+            Verb::Tick => Command::Tick { seconds: first },
+            Verb::Get => Command::Get {
+                client: first,
+                path: second,
+                settings,
+            },
+            Verb::Put => Command::Put {
+                client: first,
+                path: second,
+                settings,
+            },
+            Verb::Delete => Command::Delete {
+                client: first,
+                path: second,
+                settings,
+            },
+            Verb::Act => Command::Act { connection: first },
+            Verb::Decline => Command::Decline {
+                connection: first,
+                status: second,
+            },
+            Verb::Receive => Command::Receive { connection: first },
+            Verb::Lose => Command::Lose { connection: first },
+            Verb::Random => Command::Random {
+                seed: first,
+                count: second,
+            },
+        }
+    }
 }
 
 impl<'a> Settings<'a> {

@@ -6,7 +6,7 @@ mod show;
 
 use messages::Trouble;
 use play::script::parse;
-use play::types::{Command, Game, ScriptError, Shown, Verb};
+use play::types::{Command, Game, ScriptError, Shown};
 use play::words::number;
 use show::{End, Line};
 use std::io::{BufRead, BufReader};
@@ -29,8 +29,10 @@ fn run(rt: &HostRuntime) -> Result<(), Trouble> {
     for text in BufReader::new(rt.alloc(), rt.stdin())?.lines(rt.alloc()) {
         line = line.saturating_add(1);
         let text = text?;
-        let shown = play_line(&mut game, text.as_bytes())
-            .map_err(|error| Trouble::Script { line, error })?;
+        let shown = play_line(&mut game, text.as_bytes()).map_err(|error| Trouble::Script {
+            line,
+            error,
+        })?;
         if let Some(shown) = shown {
             rt.print(Line { game: &game, shown })?;
         }
@@ -45,18 +47,14 @@ fn run(rt: &HostRuntime) -> Result<(), Trouble> {
 
 /// What becomes of a line's command, if it is one and not many.
 fn play_line(game: &mut Game, line: &[u8]) -> Result<Option<Shown>, ScriptError> {
-    let Some(command) = parse(line)? else {
-        return Ok(None);
-    };
-    if let Verb::Random = command.verb {
-        play_random(game, command)?;
-        return Ok(None);
+    match parse(line)? {
+        None => Ok(None),
+        Some(Command::Random { seed, count }) => {
+            let seed = number(seed).ok_or(ScriptError::NoNumber)?;
+            let count = number(count).ok_or(ScriptError::NoNumber)?;
+            game.play_random(seed, count)?;
+            Ok(None)
+        }
+        Some(command) => game.step(command).map(Some),
     }
-    game.step(command).map(Some)
-}
-
-fn play_random(game: &mut Game, command: Command<'_>) -> Result<(), ScriptError> {
-    let seed = number(command.first).ok_or(ScriptError::NoNumber)?;
-    let count = number(command.second).ok_or(ScriptError::NoNumber)?;
-    game.play_random(seed, count)
 }

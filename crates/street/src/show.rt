@@ -14,10 +14,7 @@ impl fmt::Display for Line<'_> {
         let tick = self.shown.tick;
         match self.shown.what {
             What::Quiet => Ok(()),
-            What::Nothing(c) => writeln!(
-                f,
-                "{tick:>6}  nothing is under way on connection {c}"
-            ),
+            What::Nothing(c) => writeln!(f, "{tick:>6}  nothing is under way on connection {c}"),
             _ => {
                 self.fmt_who(f)?;
                 self.fmt_what(f)?;
