@@ -33,6 +33,20 @@ impl Dice {
         }
         self.state / 8_589_934_592 % sides
     }
+
+    /// What a command is chosen by.
+    fn rolls(&mut self) -> Rolls {
+        Rolls {
+            verb: self.roll(100),
+            path: self.roll(4),
+            client: self.roll(4),
+            digit: self.roll(8),
+            language: self.roll(3),
+            coin: self.roll(8),
+            max_age: self.roll(4) * 20,
+            age: self.roll(3) * 5,
+        }
+    }
 }
 
 impl Game {
@@ -44,7 +58,7 @@ impl Game {
         let mut dice = Dice::new(seed);
         for n in 0..count {
             let label = label(n);
-            let command = random_command(rolls(&mut dice).at(n), &label, n);
+            let command = random_command(dice.rolls().at(n), &label, n);
             let _ = self.step(command)?;
         }
         Ok(())
@@ -62,20 +76,6 @@ fn digit(n: u64) -> u8
     ensures { result ≡ 48 + n % 10 }
 {
     b'0' + (n % 10) as u8
-}
-
-/// What a command is chosen by.
-fn rolls(dice: &mut Dice) -> Rolls {
-    Rolls {
-        verb: dice.roll(100),
-        path: dice.roll(4),
-        client: dice.roll(4),
-        digit: dice.roll(8),
-        language: dice.roll(3),
-        coin: dice.roll(8),
-        max_age: dice.roll(4) * 20,
-        age: dice.roll(3) * 5,
-    }
 }
 
 impl Rolls {

@@ -104,18 +104,7 @@ impl<'a> Settings<'a> {
     pub fn unsaid() -> Settings<'a>
         ensures { said_of result ≡ unsaid }
     {
-        Settings {
-            language: &[],
-            etag: &[],
-            body: &[],
-            max_age: 0,
-            age: 0,
-            private: false,
-            no_store: false,
-            no_cache: false,
-            vary: false,
-            authorization: false,
-        }
+        Settings::default()
     }
 
     /// With one more word behind the subject.
@@ -249,6 +238,7 @@ impl Field {
     ];
 
     /// What a setting is about, from its name with the `=`.
+    // As `Verb::named`: a trait for the two would be longer than this line.
     fn named(name: &[u8]) -> Option<Field>
         ensures { result ≡ field_of name.now }
     {

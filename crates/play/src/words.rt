@@ -4,6 +4,8 @@ ghost use Rattle.std.specs.List.{list_any};
 ghost use Rattle.std.specs.Option.{option_map};
 ghost use Rattle.play.specs.Script.{is_blank, is_other, is_byte, is_odd, cut_word, both, digit_on, number_of};
 
+use crate::types::LARGEST_NUMBER;
+
 /// The first word of a text, and what stands behind it.
 #[tactic(auto, unfolding(crate::specs::Script::cut_word))]
 pub fn cut_word(text: &[u8]) -> Option<(&[u8], &[u8])>
@@ -52,7 +54,7 @@ fn with_digit(number: Option<u64>, b: u8) -> Option<u64>
     ensures { result ≡ digit_on number b }
 {
     let n = number?;
-    if b.is_ascii_digit() && n <= 99_999_999 {
+    if b.is_ascii_digit() && n <= LARGEST_NUMBER / 10 {
         Some(n * 10 + (b - b'0') as u64)
     } else {
         None

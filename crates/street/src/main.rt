@@ -25,9 +25,11 @@ fn main(rt: HostRuntime) -> ExitCode {
 /// Plays the script line by line, and then tells the counts and the verdict.
 fn run(rt: &HostRuntime) -> Result<(), Trouble> {
     let mut game = Game::new(rt.alloc());
-    let mut line = 0u64;
-    for text in BufReader::new(rt.alloc(), rt.stdin())?.lines(rt.alloc()) {
-        line = line.saturating_add(1);
+    for (i, text) in BufReader::new(rt.alloc(), rt.stdin())?
+        .lines(rt.alloc())
+        .enumerate()
+    {
+        let line = i + 1;
         let text = text?;
         let shown = play_line(&mut game, text.as_bytes()).map_err(|error| Trouble::Script {
             line,

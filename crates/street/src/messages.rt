@@ -6,7 +6,7 @@ use std::{fmt, io};
 #[derive(Debug, Drop)]
 pub(crate) enum Trouble {
     /// a line of the script is wrong
-    Script { line: u64, error: ScriptError },
+    Script { line: usize, error: ScriptError },
     /// an answer was not as promised
     Broken,
     /// the input can't be read, or the output not written
