@@ -48,7 +48,7 @@ fn settings(verb: Verb, text: &[u8]) -> Result<Settings<'_>, ScriptError>
 {
     let mut said = Settings::unsaid();
     let mut rest = text;
-    for i in 0..MOST_SETTINGS {
+    for _i in 0..MOST_SETTINGS {
         let Some((word, behind)) = cut_word(rest) else {
             return Ok(said);
         };

@@ -9,4 +9,4 @@ said_in (language, (etag, (body, (max_age, (age, (private, (no_store, (no_cache,
     record { language = language.now; etag = etag.now; body = body.now; max_age = max_age; age = age; private = private; no_store = no_store; no_cache = no_cache; vary = vary; authorization = authorization }
 
 abbrev pub invariant-loop-i : goal.invariant-loop-i
-invariant-loop-i l = settings_on (16 - l.i) l.verb (said_in l.said) l.rest ≡ settings_on 16 l.verb unsaid l.text
+invariant-loop-i l = settings_on (16 - l._i) l.verb (said_in l.said) l.rest ≡ settings_on 16 l.verb unsaid l.text
