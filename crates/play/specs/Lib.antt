@@ -4,3 +4,4 @@ pub mod Script
 pub mod Tables
 pub mod Dice
 pub mod Tally
+pub mod Texts

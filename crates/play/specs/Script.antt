@@ -1,31 +1,34 @@
 -- What a line of a script means, from its bytes.
 --
 --   is_blank, is_other   a byte that parts words; any other
---   isHash        the byte that begins a comment
+--   is_byte       a byte is this one
 --   is_odd        a byte that can't be printed
 --   cut_word      the first word of a text and what stands behind it; None if there is no word
 --   number_of     the number that a word of digits stands for; None for any other word
 --   spelled_verb, spelled_field   how a verb and the name of a setting are written
+--   verbs, fields all verbs, and the names of all settings, in the order in which a word is sought among them
 --   verb_of       the verb of a word; takes_two: it is followed by two words, and not by one
 --   field_of      what a setting is about, from its name with `=`; may_stand: it may stand behind this verb
 --   Said          what is said behind the subject, as bytes; said_of: of settings
 --   set_field     what is said, with one more setting
 --   settings_on   what is said with at most so many words more
---   Line          a line, as bytes; line_of: of a command
+--   Line          a line, as bytes; line_of: of a command; line_with: of a verb, with those of these words that it takes
+--   before_comment a line, as far as its comment
 --   parsed        what a line means: nothing, a command, or what is wrong with it
 --
 -- Assumes nothing.
-use Rattle.std.specs.Prelude.{ℕ, zero, suc, ◌+◌, ◌-◌, ◌*◌, min, Bool, true, false, cond, not, ◌&&◌, ◌||◌, List, [], ◌∷◌, length, take, drop, Some, None, Ok, Err, codes, Option, Result, ◌==◌, nat_le, nat_lt}
+use Rattle.std.specs.Prelude.{ℕ, zero, suc, ◌+◌, ◌-◌, ◌*◌, Bool, true, false, cond, not, ◌&&◌, ◌||◌, List, [], ◌∷◌, length, take, drop, Some, None, Ok, Err, codes, Option, Result, ◌==◌, nat_le, nat_lt}
 use Rattle.std.specs.Borrow.{Bor}
-use Rattle.std.specs.Option.{ok_or}
+use Rattle.std.specs.List.{position, fold, find, list_any}
+use Rattle.std.specs.Option.{option_map, option_map_or, ok_or, unwrap_or}
 use Rattle.std.specs.Str.{bytes_eq}
-use Rattle.lists.specs.Firsts.{first, any}
 use Rattle.play.specs.declared.types.Verb.{Verb}
 use Rattle.play.specs.declared.types.Verb.TheVariants as verb
 use Rattle.play.specs.declared.types.Field.{Field}
 use Rattle.play.specs.declared.types.Field.TheVariants as field
 use Rattle.play.specs.declared.types.Settings.{Settings}
 use Rattle.play.specs.declared.types.Command.{Command}
+use Rattle.play.specs.declared.types.Command.TheVariants as command
 use Rattle.play.specs.declared.types.ScriptError.{ScriptError}
 use Rattle.play.specs.declared.types.ScriptError.TheVariants.{Unprintable, UnknownVerb, MissingWord, UnknownSetting, MisplacedSetting, ManyWords, NoNumber}
 
@@ -44,8 +47,15 @@ is_odd b = not (is_blank b) && (nat_lt b 32 || nat_lt 126 b)
 abbrev pub cut_at : ℕ → List ℕ → List ℕ × List ℕ
 cut_at n s = (take n s, drop n s)
 
+-- the word that begins a text, and what stands behind it
+abbrev pub cut_blank : List ℕ → List ℕ × List ℕ
+cut_blank s = cut_at (unwrap_or (position is_blank s) (length s)) s
+
+abbrev pub cut_from : List ℕ → ℕ → List ℕ × List ℕ
+cut_from s n = cut_blank (drop n s)
+
 unfoldable pub cut_word : List ℕ → Option (List ℕ × List ℕ)
-cut_word s = cond (nat_lt (first is_other s) (length s)) (Some (cut_at (first is_blank (drop (first is_other s) s)) (drop (first is_other s) s))) None
+cut_word s = option_map (cut_from s) (position is_other s)
 
 abbrev pub both : Bor (List ℕ) × Bor (List ℕ) → List ℕ × List ℕ
 both p = (p.0.now, p.1.now)
@@ -55,12 +65,8 @@ abbrev pub digit_on : Option ℕ → ℕ → Option ℕ
 digit_on None b = None
 digit_on (Some n) b = cond (nat_le 48 b && (nat_le b 57 && nat_le n 99999999)) (Some (n * 10 + (b - 48))) None
 
-unfoldable pub number_on : Option ℕ → List ℕ → Option ℕ
-number_on acc [] = acc
-number_on acc (b ∷ bs) = number_on (digit_on acc b) bs
-
 abbrev pub number_of : List ℕ → Option ℕ
-number_of s = cond (length s == 0) None (number_on (Some 0) s)
+number_of s = cond (length s == 0) None (fold digit_on (Some 0) s)
 
 unfoldable pub spelled_verb : Verb → List ℕ
 spelled_verb verb.Origin = codes "origin"
@@ -74,18 +80,11 @@ spelled_verb verb.Receive = codes "receive"
 spelled_verb verb.Lose = codes "lose"
 spelled_verb verb.Random = codes "random"
 
+abbrev pub verbs : List Verb
+verbs = verb.Origin ∷ verb.Tick ∷ verb.Get ∷ verb.Put ∷ verb.Delete ∷ verb.Act ∷ verb.Decline ∷ verb.Receive ∷ verb.Lose ∷ verb.Random ∷ []
+
 abbrev pub verb_of : List ℕ → Option Verb
-verb_of w =
-    cond (bytes_eq w (spelled_verb verb.Origin)) (Some verb.Origin)
-    (cond (bytes_eq w (spelled_verb verb.Tick)) (Some verb.Tick)
-    (cond (bytes_eq w (spelled_verb verb.Get)) (Some verb.Get)
-    (cond (bytes_eq w (spelled_verb verb.Put)) (Some verb.Put)
-    (cond (bytes_eq w (spelled_verb verb.Delete)) (Some verb.Delete)
-    (cond (bytes_eq w (spelled_verb verb.Act)) (Some verb.Act)
-    (cond (bytes_eq w (spelled_verb verb.Decline)) (Some verb.Decline)
-    (cond (bytes_eq w (spelled_verb verb.Receive)) (Some verb.Receive)
-    (cond (bytes_eq w (spelled_verb verb.Lose)) (Some verb.Lose)
-    (cond (bytes_eq w (spelled_verb verb.Random)) (Some verb.Random) None)))))))))
+verb_of w = find (λ v. bytes_eq w (spelled_verb v)) verbs
 
 abbrev pub takes_two : Verb → Bool
 takes_two verb.Origin = false
@@ -111,18 +110,11 @@ spelled_field field.NoCache = codes "no-cache"
 spelled_field field.Vary = codes "vary"
 spelled_field field.Authorization = codes "authorization"
 
+abbrev pub fields : List Field
+fields = field.Language ∷ field.Etag ∷ field.Body ∷ field.MaxAge ∷ field.Age ∷ field.Private ∷ field.NoStore ∷ field.NoCache ∷ field.Vary ∷ field.Authorization ∷ []
+
 abbrev pub field_of : List ℕ → Option Field
-field_of w =
-    cond (bytes_eq w (spelled_field field.Language)) (Some field.Language)
-    (cond (bytes_eq w (spelled_field field.Etag)) (Some field.Etag)
-    (cond (bytes_eq w (spelled_field field.Body)) (Some field.Body)
-    (cond (bytes_eq w (spelled_field field.MaxAge)) (Some field.MaxAge)
-    (cond (bytes_eq w (spelled_field field.Age)) (Some field.Age)
-    (cond (bytes_eq w (spelled_field field.Private)) (Some field.Private)
-    (cond (bytes_eq w (spelled_field field.NoStore)) (Some field.NoStore)
-    (cond (bytes_eq w (spelled_field field.NoCache)) (Some field.NoCache)
-    (cond (bytes_eq w (spelled_field field.Vary)) (Some field.Vary)
-    (cond (bytes_eq w (spelled_field field.Authorization)) (Some field.Authorization) None)))))))))
+field_of w = find (λ f. bytes_eq w (spelled_field f)) fields
 
 -- What the origin has and says; what a request says; what a write brings.
 abbrev pub in_origin : Field → Bool
@@ -233,7 +225,7 @@ set_if v (Some f) value s = cond (may_stand v f) (set_field f value s) (Err Misp
 
 -- The name of a setting ends with `=`, if it has a value.
 abbrev pub name_length : List ℕ → ℕ
-name_length w = min (first (is_byte 61) w + 1) (length w)
+name_length w = option_map_or (λ i. i + 1) (position (is_byte 61) w) (length w)
 
 unfoldable pub with_word : Verb → List ℕ → Said → Result Said ScriptError
 with_word v w s = set_if v (field_of (take (name_length w) w)) (drop (name_length w) w) s
@@ -260,7 +252,28 @@ pub record Line : Type 0 where
   pub said : Said
 
 abbrev pub line_of : Command → Line
-line_of c = record { verb = c.verb; subject = c.first.now; second = c.second.now; said = said_of c.settings }
+line_of (command.Origin path settings) = record { verb = verb.Origin; subject = path.now; second = []; said = said_of settings }
+line_of (command.Tick seconds) = record { verb = verb.Tick; subject = seconds.now; second = []; said = unsaid }
+line_of (command.Get client path settings) = record { verb = verb.Get; subject = client.now; second = path.now; said = said_of settings }
+line_of (command.Put client path settings) = record { verb = verb.Put; subject = client.now; second = path.now; said = said_of settings }
+line_of (command.Delete client path settings) = record { verb = verb.Delete; subject = client.now; second = path.now; said = said_of settings }
+line_of (command.Act connection) = record { verb = verb.Act; subject = connection.now; second = []; said = unsaid }
+line_of (command.Decline connection status) = record { verb = verb.Decline; subject = connection.now; second = status.now; said = unsaid }
+line_of (command.Receive connection) = record { verb = verb.Receive; subject = connection.now; second = []; said = unsaid }
+line_of (command.Lose connection) = record { verb = verb.Lose; subject = connection.now; second = []; said = unsaid }
+line_of (command.Random seed count) = record { verb = verb.Random; subject = seed.now; second = count.now; said = unsaid }
+
+abbrev pub line_with : Verb → List ℕ → List ℕ → Said → Line
+line_with verb.Origin a b s = record { verb = verb.Origin; subject = a; second = []; said = s }
+line_with verb.Tick a b s = record { verb = verb.Tick; subject = a; second = []; said = unsaid }
+line_with verb.Get a b s = record { verb = verb.Get; subject = a; second = b; said = s }
+line_with verb.Put a b s = record { verb = verb.Put; subject = a; second = b; said = s }
+line_with verb.Delete a b s = record { verb = verb.Delete; subject = a; second = b; said = s }
+line_with verb.Act a b s = record { verb = verb.Act; subject = a; second = []; said = unsaid }
+line_with verb.Decline a b s = record { verb = verb.Decline; subject = a; second = b; said = unsaid }
+line_with verb.Receive a b s = record { verb = verb.Receive; subject = a; second = []; said = unsaid }
+line_with verb.Lose a b s = record { verb = verb.Lose; subject = a; second = []; said = unsaid }
+line_with verb.Random a b s = record { verb = verb.Random; subject = a; second = b; said = unsaid }
 
 abbrev pub seen_line : Option Command → Option Line
 seen_line None = None
@@ -286,5 +299,8 @@ abbrev pub with_words : Option (List ℕ × List ℕ) → Result (Option Line) S
 with_words None = Ok None
 with_words (Some p) = with_verb (verb_of p.0) p.1
 
+abbrev pub before_comment : List ℕ → List ℕ
+before_comment s = take (unwrap_or (position (is_byte 35) s) (length s)) s
+
 abbrev pub parsed : List ℕ → Result (Option Line) ScriptError
-parsed s = cond (any is_odd s) (Err Unprintable) (with_words (cut_word (take (first (is_byte 35) s) s)))
+parsed s = cond (list_any is_odd s) (Err Unprintable) (with_words (cut_word (before_comment s)))

@@ -8,5 +8,6 @@ pub mod names;
 pub mod random;
 pub mod script;
 pub mod tables;
+pub mod texts;
 pub mod types;
 pub mod words;

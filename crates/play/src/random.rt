@@ -1,8 +1,16 @@
 // Commands in random order, from a seed: the same seed gives the same commands.
-ghost use Rattle.std.specs.Prelude.{◌≡◌, ◌+◌, ◌%◌};
-ghost use Rattle.play.specs.Dice.{next_state, rolled, label_of, rolls_at};
+ghost use Rattle.std.specs.Prelude.{◌≡◌, ◌+◌, ◌%◌, [], IfOk, MatchOption, slice_get};
+ghost use Rattle.play.specs.Dice.{next_state, rolled, label_of, rolls_at, PlayedAs};
 
-use crate::types::{Command, Dice, Game, Rolls, ScriptError, Settings, Verb};
+use crate::types::{Command, Dice, Game, Rolls, ScriptError, Settings};
+
+const PATHS: [&[u8]; 4] = [b"/a", b"/b", b"/c", b"/d"];
+
+const LANGUAGES: [&[u8]; 3] = [b"sv", b"fi", b"en"];
+
+const CLIENTS: [&[u8]; 4] = [b"anna", b"bo", b"cleo", b"dan"];
+
+const DIGITS: [&[u8]; 8] = [b"0", b"1", b"2", b"3", b"4", b"5", b"6", b"7"];
 
 impl Dice {
     pub fn new(seed: u64) -> Dice
@@ -25,17 +33,32 @@ impl Dice {
         }
         self.state / 8_589_934_592 % sides
     }
+
+    /// What a command is chosen by.
+    fn rolls(&mut self) -> Rolls {
+        Rolls {
+            verb: self.roll(100),
+            path: self.roll(4),
+            client: self.roll(4),
+            digit: self.roll(8),
+            language: self.roll(3),
+            coin: self.roll(8),
+            max_age: self.roll(4) * 20,
+            age: self.roll(3) * 5,
+        }
+    }
 }
 
 impl Game {
     /// So many commands in random order.
     pub fn play_random(&mut self, seed: u64, count: u64) -> Result<(), ScriptError>
         ensures none { count ≡ 0 → self.new ≡ self.old }
+        ensures steps { IfOk result (λ _. PlayedAs count self.old.counts self.old.broken self.new.counts self.new.broken) }
     {
         let mut dice = Dice::new(seed);
         for n in 0..count {
             let label = label(n);
-            let command = random_command(rolls(&mut dice).at(n), &label, n);
+            let command = random_command(dice.rolls().at(n), &label, n);
             let _ = self.step(command)?;
         }
         Ok(())
@@ -46,33 +69,13 @@ impl Game {
 fn label(n: u64) -> [u8; 5]
     ensures { result ≡ label_of n }
 {
-    [
-        digit(n / 10000),
-        digit(n / 1000),
-        digit(n / 100),
-        digit(n / 10),
-        digit(n),
-    ]
+    [n / 10000, n / 1000, n / 100, n / 10, n].map(digit)
 }
 
 fn digit(n: u64) -> u8
     ensures { result ≡ 48 + n % 10 }
 {
-    48 + (n % 10) as u8
-}
-
-/// What a command is chosen by.
-fn rolls(dice: &mut Dice) -> Rolls {
-    Rolls {
-        verb: dice.roll(100),
-        path: dice.roll(4),
-        client: dice.roll(4),
-        digit: dice.roll(8),
-        language: dice.roll(3),
-        coin: dice.roll(8),
-        max_age: dice.roll(4) * 20,
-        age: dice.roll(3) * 5,
-    }
+    b'0' + (n % 10) as u8
 }
 
 impl Rolls {
@@ -93,114 +96,83 @@ impl Rolls {
 }
 
 fn random_command<'a>(rolls: Rolls, label: &'a [u8], n: u64) -> Command<'a> {
-    let verb = verb_at(rolls.verb);
-    Command {
-        verb,
-        first: first_at(verb, rolls),
-        second: second_at(verb, rolls),
-        settings: random_settings(rolls, verb, label, n),
+    let client = pick(&CLIENTS, rolls.client);
+    let path = pick(&PATHS, rolls.path);
+    let digit = pick(&DIGITS, rolls.digit);
+    match rolls.verb {
+        0..=17 => Command::Get {
+            client,
+            path,
+            settings: rolls.asked(),
+        },
+        18..=21 => Command::Put {
+            client,
+            path,
+            settings: rolls.written(label, n),
+        },
+        22 => Command::Delete {
+            client,
+            path,
+            settings: rolls.in_language(),
+        },
+        23..=27 => Command::Origin {
+            path,
+            settings: rolls.had(label, n),
+        },
+        28..=58 => Command::Act { connection: digit },
+        59..=89 => Command::Receive { connection: digit },
+        90..=91 => Command::Lose { connection: digit },
+        92 => Command::Decline {
+            connection: digit,
+            status: b"503",
+        },
+        _ => Command::Tick { seconds: digit },
     }
 }
 
-fn first_at(verb: Verb, rolls: Rolls) -> &'static [u8] {
-    match verb {
-        Verb::Origin => path_at(rolls.path),
-        Verb::Get | Verb::Put | Verb::Delete => client_at(rolls.client),
-        Verb::Tick | Verb::Act | Verb::Decline | Verb::Receive | Verb::Lose | Verb::Random =>
-            digit_at(rolls.digit),
+impl Rolls {
+    fn in_language<'a>(self) -> Settings<'a> {
+        Settings {
+            language: pick(&LANGUAGES, self.language),
+            ..Settings::unsaid()
+        }
     }
-}
 
-fn second_at(verb: Verb, rolls: Rolls) -> &'static [u8] {
-    match verb {
-        Verb::Get | Verb::Put | Verb::Delete => path_at(rolls.path),
-        Verb::Decline => b"503",
-        Verb::Origin | Verb::Tick | Verb::Act | Verb::Receive | Verb::Lose | Verb::Random => b"",
+    /// What a request says.
+    fn asked<'a>(self) -> Settings<'a> {
+        Settings {
+            no_store: self.coin == 0,
+            no_cache: self.coin == 1,
+            authorization: self.coin == 2,
+            ..self.in_language()
+        }
     }
-}
 
-/// The paths 0 and 1 vary. One label in three has no etag.
-fn random_settings<'a>(rolls: Rolls, verb: Verb, label: &'a [u8], n: u64) -> Settings<'a> {
-    let etag: &[u8] = if n % 3 == 0 { b"" } else { label };
-    let said = Settings {
-        language: language_at(rolls.language),
-        ..Settings::unsaid()
-    };
-    match verb {
-        Verb::Origin => Settings {
-            etag,
+    /// What a write brings. One label in three has no etag.
+    fn written<'a>(self, label: &'a [u8], n: u64) -> Settings<'a> {
+        Settings {
+            etag: if n % 3 == 0 { b"" } else { label },
             body: label,
-            max_age: rolls.max_age,
-            age: rolls.age,
-            private: rolls.coin == 0,
-            no_cache: rolls.coin == 1,
-            vary: rolls.path < 2,
-            ..said
-        },
-        Verb::Get => Settings {
-            no_store: rolls.coin == 0,
-            no_cache: rolls.coin == 1,
-            authorization: rolls.coin == 2,
-            ..said
-        },
-        Verb::Put => Settings {
-            etag,
-            body: label,
-            ..said
-        },
-        _ => said,
+            ..self.in_language()
+        }
+    }
+
+    /// What the origin has and says. The paths 0 and 1 vary.
+    fn had<'a>(self, label: &'a [u8], n: u64) -> Settings<'a> {
+        Settings {
+            max_age: self.max_age,
+            age: self.age,
+            private: self.coin == 0,
+            no_cache: self.coin == 1,
+            vary: self.path < 2,
+            ..self.written(label, n)
+        }
     }
 }
 
-fn verb_at(n: u64) -> Verb {
-    match n {
-        0..=17 => Verb::Get,
-        18..=21 => Verb::Put,
-        22 => Verb::Delete,
-        23..=27 => Verb::Origin,
-        28..=58 => Verb::Act,
-        59..=89 => Verb::Receive,
-        90..=91 => Verb::Lose,
-        92 => Verb::Decline,
-        _ => Verb::Tick,
-    }
-}
-
-fn path_at(n: u64) -> &'static [u8] {
-    match n {
-        0 => b"/a",
-        1 => b"/b",
-        2 => b"/c",
-        _ => b"/d",
-    }
-}
-
-fn language_at(n: u64) -> &'static [u8] {
-    match n {
-        0 => b"sv",
-        1 => b"fi",
-        _ => b"en",
-    }
-}
-
-fn client_at(n: u64) -> &'static [u8] {
-    match n {
-        0 => b"anna",
-        1 => b"bo",
-        2 => b"cleo",
-        _ => b"dan",
-    }
-}
-
-fn digit_at(n: u64) -> &'static [u8] {
-    match n {
-        0 => b"0",
-        1 => b"1",
-        2 => b"2",
-        3 => b"3",
-        4 => b"4",
-        5 => b"5",
-        6 => b"6",
-        _ => b"7",
-    }
+/// The name with this number; empty past the last.
+fn pick(names: &[&'static [u8]], n: u64) -> &'static [u8]
+    ensures { MatchOption (slice_get names.now n) (result.now ≡ []) (λ name. result.now ≡ name.now) }
+{
+    names.get(n as usize).copied().unwrap_or(b"")
 }

@@ -1,10 +1,10 @@
 // What a line of a script says.
 ghost use Rattle.std.specs.Prelude.{◌≡◌, true};
 ghost use Rattle.std.specs.Option.{option_map};
-ghost use Rattle.play.specs.Script.{both, spelled_verb, spelled_field, verb_of, takes_two, field_of, in_origin, in_get, in_put, in_delete, may_stand, said_of, unsaid, seen_ok, set_field, set_if, with_word, settings_on, second_of, seen_line, parsed};
+ghost use Rattle.play.specs.Script.{both, before_comment, cut_at, name_length, spelled_verb, spelled_field, verb_of, takes_two, field_of, may_stand, said_of, unsaid, seen_ok, set_field, with_word, settings_on, second_of, line_of, line_with, seen_line, parsed};
 
 use crate::types::{Command, Field, MOST_SETTINGS, ScriptError, Settings, Verb};
-use crate::words::{any_odd, cut_word, first_of, front, is_word, number, rest};
+use crate::words::{any_odd, cut_word, first_of, number};
 
 /// What a line means: nothing, a command, or what is wrong with it.
 pub fn parse(line: &[u8]) -> Result<Option<Command<'_>>, ScriptError>
@@ -13,56 +13,89 @@ pub fn parse(line: &[u8]) -> Result<Option<Command<'_>>, ScriptError>
     if any_odd(line) {
         return Err(ScriptError::Unprintable);
     }
-    let Some((word, behind)) = cut_word(front(line, first_of(line, b'#'))) else {
+    let Some((word, behind)) = cut_word(before_comment(line)) else {
         return Ok(None);
     };
-    let Some(verb) = verb_of(word) else {
-        return Err(ScriptError::UnknownVerb);
-    };
-    let Some((first, behind)) = cut_word(behind) else {
-        return Err(ScriptError::MissingWord);
-    };
+    let verb = Verb::named(word).ok_or(ScriptError::UnknownVerb)?;
+    let (first, behind) = cut_word(behind).ok_or(ScriptError::MissingWord)?;
     let (second, behind) = second_of(verb, behind)?;
-    let settings = settings_on(MOST_SETTINGS, verb, Settings::unsaid(), behind)?;
-    Ok(Some(Command {
-        verb,
-        first,
-        second,
-        settings,
-    }))
+    let settings = settings(verb, behind)?;
+    Ok(Some(Command::new(verb, first, second, settings)))
+}
+
+/// A line, as far as its comment.
+fn before_comment(line: &[u8]) -> &[u8]
+    ensures { result.now ≡ before_comment line.now }
+{
+    let len = first_of(line, b'#').unwrap_or(line.len());
+    &line[..len]
 }
 
 /// The second word of the subject, and what stands behind it; none for a verb that takes one word.
 fn second_of(verb: Verb, text: &[u8]) -> Result<(&[u8], &[u8]), ScriptError>
     ensures { seen_ok both result ≡ second_of verb text.now }
 {
-    if !verb.takes_two() {
-        return Ok((&[], text));
-    }
-    match cut_word(text) {
-        None => Err(ScriptError::MissingWord),
-        Some(pair) => Ok(pair),
+    if verb.takes_two() {
+        cut_word(text).ok_or(ScriptError::MissingWord)
+    } else {
+        Ok((&[], text))
     }
 }
 
-/// What is said behind the subject, in at most so many words more.
-fn settings_on<'a>(
-    left: usize,
-    verb: Verb,
-    said: Settings<'a>,
-    text: &'a [u8],
-) -> Result<Settings<'a>, ScriptError>
-    ensures { seen_ok said_of result ≡ settings_on left verb (said_of said.entry) text.now }
+/// What is said behind the subject.
+fn settings(verb: Verb, text: &[u8]) -> Result<Settings<'_>, ScriptError>
+    ensures { seen_ok said_of result ≡ settings_on 16 verb unsaid text.now }
 {
-    if left == 0 {
-        return Err(ScriptError::ManyWords);
+    let mut said = Settings::unsaid();
+    let mut rest = text;
+    for _i in 0..MOST_SETTINGS {
+        let Some((word, behind)) = cut_word(rest) else {
+            return Ok(said);
+        };
+        said = said.with_word(verb, word)?;
+        rest = behind;
     }
-    let Some((word, behind)) = cut_word(text) else {
-        return Ok(said);
-    };
-    match said.with_word(verb, word) {
-        Err(error) => Err(error),
-        Ok(more) => settings_on(left - 1, verb, more, behind),
+    Err(ScriptError::ManyWords)
+}
+
+impl<'a> Command<'a> {
+    /// A verb with those of these words that it takes.
+    fn new(verb: Verb, first: &'a [u8], second: &'a [u8], settings: Settings<'a>) -> Command<'a>
+        ensures { line_of result ≡ line_with verb first.now second.now (said_of settings.entry) }
+    {
+        match verb {
+            Verb::Origin => Command::Origin {
+                path: first,
+                settings,
+            },
+            Verb::Tick => Command::Tick { seconds: first },
+            Verb::Get => Command::Get {
+                client: first,
+                path: second,
+                settings,
+            },
+            Verb::Put => Command::Put {
+                client: first,
+                path: second,
+                settings,
+            },
+            Verb::Delete => Command::Delete {
+                client: first,
+                path: second,
+                settings,
+            },
+            Verb::Act => Command::Act { connection: first },
+            Verb::Decline => Command::Decline {
+                connection: first,
+                status: second,
+            },
+            Verb::Receive => Command::Receive { connection: first },
+            Verb::Lose => Command::Lose { connection: first },
+            Verb::Random => Command::Random {
+                seed: first,
+                count: second,
+            },
+        }
     }
 }
 
@@ -71,92 +104,76 @@ impl<'a> Settings<'a> {
     pub fn unsaid() -> Settings<'a>
         ensures { said_of result ≡ unsaid }
     {
-        Settings {
-            language: &[],
-            etag: &[],
-            body: &[],
-            max_age: 0,
-            age: 0,
-            private: false,
-            no_store: false,
-            no_cache: false,
-            vary: false,
-            authorization: false,
-        }
+        Settings::default()
     }
 
     /// With one more word behind the subject.
+    #[tactic(auto, unfolding(crate::specs::Script::with_word))]
     fn with_word(self, verb: Verb, word: &'a [u8]) -> Result<Settings<'a>, ScriptError>
         ensures { seen_ok said_of result ≡ with_word verb word.now (said_of self.entry) }
     {
-        let len = (first_of(word, b'=') + 1).min(word.len());
-        self.with_field(verb, field_of(front(word, len)), rest(word, len))
-    }
-
-    fn with_field(
-        self,
-        verb: Verb,
-        field: Option<Field>,
-        value: &'a [u8],
-    ) -> Result<Settings<'a>, ScriptError>
-        ensures { seen_ok said_of result ≡ set_if verb field value.now (said_of self.entry) }
-    {
-        let Some(field) = field else {
-            return Err(ScriptError::UnknownSetting);
-        };
-        if !verb.takes(field) {
-            return Err(ScriptError::MisplacedSetting);
+        let (name, value) = cut_name(word);
+        let field = Field::named(name).ok_or(ScriptError::UnknownSetting)?;
+        if verb.takes(field) {
+            self.with(field, value)
+        } else {
+            Err(ScriptError::MisplacedSetting)
         }
-        self.set(field, value)
     }
 
-    fn set(self, field: Field, value: &'a [u8]) -> Result<Settings<'a>, ScriptError>
+    fn with(mut self, field: Field, value: &'a [u8]) -> Result<Settings<'a>, ScriptError>
         ensures { seen_ok said_of result ≡ set_field field value.now (said_of self.entry) }
     {
         match field {
-            Field::Language => Ok(Settings {
-                language: value,
-                ..self
-            }),
-            Field::Etag => Ok(Settings {
-                etag: value,
-                ..self
-            }),
-            Field::Body => Ok(Settings {
-                body: value,
-                ..self
-            }),
-            Field::MaxAge => match number(value) {
-                None => Err(ScriptError::NoNumber),
-                Some(n) => Ok(Settings { max_age: n, ..self }),
-            },
-            Field::Age => match number(value) {
-                None => Err(ScriptError::NoNumber),
-                Some(n) => Ok(Settings { age: n, ..self }),
-            },
-            Field::Private => Ok(Settings {
-                private: true,
-                ..self
-            }),
-            Field::NoStore => Ok(Settings {
-                no_store: true,
-                ..self
-            }),
-            Field::NoCache => Ok(Settings {
-                no_cache: true,
-                ..self
-            }),
-            Field::Vary => Ok(Settings { vary: true, ..self }),
-            Field::Authorization => Ok(Settings {
-                authorization: true,
-                ..self
-            }),
+            Field::Language => self.language = value,
+            Field::Etag => self.etag = value,
+            Field::Body => self.body = value,
+            Field::MaxAge => self.max_age = number(value).ok_or(ScriptError::NoNumber)?,
+            Field::Age => self.age = number(value).ok_or(ScriptError::NoNumber)?,
+            Field::Private => self.private = true,
+            Field::NoStore => self.no_store = true,
+            Field::NoCache => self.no_cache = true,
+            Field::Vary => self.vary = true,
+            Field::Authorization => self.authorization = true,
         }
+        Ok(self)
     }
 }
 
+/// The name of a setting, with the `=` if it has a value, and the value.
+fn cut_name(word: &[u8]) -> (&[u8], &[u8])
+    ensures { both result ≡ cut_at (name_length word.now) word.now }
+{
+    let len = first_of(word, b'=').map_or(word.len(), |i| i + 1);
+    word.split_at(len)
+}
+
 impl Verb {
+    const ALL: [Verb; 10] = [
+        Verb::Origin,
+        Verb::Tick,
+        Verb::Get,
+        Verb::Put,
+        Verb::Delete,
+        Verb::Act,
+        Verb::Decline,
+        Verb::Receive,
+        Verb::Lose,
+        Verb::Random,
+    ];
+
+    /// The verb of a word.
+    fn named(word: &[u8]) -> Option<Verb>
+        ensures { result ≡ verb_of word.now }
+    {
+        Verb::ALL
+            .iter()
+            .copied()
+            .find(|verb| word == verb.spelling())
+    }
+
     /// How it is written.
+    #[tactic(auto, unfolding(crate::specs::Script::spelled_verb))]
     fn spelling(self) -> &'static [u8]
         ensures { result.now ≡ spelled_verb self }
     {
@@ -178,10 +195,10 @@ impl Verb {
     fn takes_two(self) -> bool
         ensures { result ≡ takes_two self }
     {
-        match self {
-            Verb::Get | Verb::Put | Verb::Delete | Verb::Decline | Verb::Random => true,
-            Verb::Origin | Verb::Tick | Verb::Act | Verb::Receive | Verb::Lose => false,
-        }
+        matches!(
+            self,
+            Verb::Get | Verb::Put | Verb::Delete | Verb::Decline | Verb::Random
+        )
     }
 
     /// May this be said behind its subject?
@@ -189,10 +206,17 @@ impl Verb {
         ensures { result ≡ may_stand self field }
     {
         match self {
-            Verb::Origin => field.in_origin(),
-            Verb::Get => field.in_get(),
-            Verb::Put => field.in_put(),
-            Verb::Delete => field.in_delete(),
+            Verb::Origin => !matches!(field, Field::Authorization),
+            Verb::Get => matches!(
+                field,
+                Field::Language
+                    | Field::Etag
+                    | Field::NoStore
+                    | Field::NoCache
+                    | Field::Authorization
+            ),
+            Verb::Put => matches!(field, Field::Language | Field::Etag | Field::Body),
+            Verb::Delete => matches!(field, Field::Language),
             Verb::Tick | Verb::Act | Verb::Decline | Verb::Receive | Verb::Lose | Verb::Random =>
                 false,
         }
@@ -200,7 +224,32 @@ impl Verb {
 }
 
 impl Field {
+    const ALL: [Field; 10] = [
+        Field::Language,
+        Field::Etag,
+        Field::Body,
+        Field::MaxAge,
+        Field::Age,
+        Field::Private,
+        Field::NoStore,
+        Field::NoCache,
+        Field::Vary,
+        Field::Authorization,
+    ];
+
+    /// What a setting is about, from its name with the `=`.
+    // As `Verb::named`: a trait for the two would be longer than this line.
+    fn named(name: &[u8]) -> Option<Field>
+        ensures { result ≡ field_of name.now }
+    {
+        Field::ALL
+            .iter()
+            .copied()
+            .find(|field| name == field.spelling())
+    }
+
     /// How it is written.
+    #[tactic(auto, unfolding(crate::specs::Script::spelled_field))]
     fn spelling(self) -> &'static [u8]
         ensures { result.now ≡ spelled_field self }
     {
@@ -216,125 +265,5 @@ impl Field {
             Field::Vary => b"vary",
             Field::Authorization => b"authorization",
         }
-    }
-
-    fn in_origin(self) -> bool
-        ensures { result ≡ in_origin self }
-    {
-        match self {
-            Field::Authorization => false,
-            Field::Language
-            | Field::Etag
-            | Field::Body
-            | Field::MaxAge
-            | Field::Age
-            | Field::Private
-            | Field::NoStore
-            | Field::NoCache
-            | Field::Vary => true,
-        }
-    }
-
-    fn in_get(self) -> bool
-        ensures { result ≡ in_get self }
-    {
-        match self {
-            Field::Language
-            | Field::Etag
-            | Field::NoStore
-            | Field::NoCache
-            | Field::Authorization => true,
-            Field::Body | Field::MaxAge | Field::Age | Field::Private | Field::Vary => false,
-        }
-    }
-
-    fn in_put(self) -> bool
-        ensures { result ≡ in_put self }
-    {
-        match self {
-            Field::Language | Field::Etag | Field::Body => true,
-            Field::MaxAge
-            | Field::Age
-            | Field::Private
-            | Field::NoStore
-            | Field::NoCache
-            | Field::Vary
-            | Field::Authorization => false,
-        }
-    }
-
-    fn in_delete(self) -> bool
-        ensures { result ≡ in_delete self }
-    {
-        match self {
-            Field::Language => true,
-            Field::Etag
-            | Field::Body
-            | Field::MaxAge
-            | Field::Age
-            | Field::Private
-            | Field::NoStore
-            | Field::NoCache
-            | Field::Vary
-            | Field::Authorization => false,
-        }
-    }
-}
-
-/// The verb of a word.
-fn verb_of(word: &[u8]) -> Option<Verb>
-    ensures { result ≡ verb_of word.now }
-{
-    if is_word(word, Verb::Origin.spelling()) {
-        Some(Verb::Origin)
-    } else if is_word(word, Verb::Tick.spelling()) {
-        Some(Verb::Tick)
-    } else if is_word(word, Verb::Get.spelling()) {
-        Some(Verb::Get)
-    } else if is_word(word, Verb::Put.spelling()) {
-        Some(Verb::Put)
-    } else if is_word(word, Verb::Delete.spelling()) {
-        Some(Verb::Delete)
-    } else if is_word(word, Verb::Act.spelling()) {
-        Some(Verb::Act)
-    } else if is_word(word, Verb::Decline.spelling()) {
-        Some(Verb::Decline)
-    } else if is_word(word, Verb::Receive.spelling()) {
-        Some(Verb::Receive)
-    } else if is_word(word, Verb::Lose.spelling()) {
-        Some(Verb::Lose)
-    } else if is_word(word, Verb::Random.spelling()) {
-        Some(Verb::Random)
-    } else {
-        None
-    }
-}
-
-/// What a setting is about, from its name with the `=`.
-fn field_of(name: &[u8]) -> Option<Field>
-    ensures { result ≡ field_of name.now }
-{
-    if is_word(name, Field::Language.spelling()) {
-        Some(Field::Language)
-    } else if is_word(name, Field::Etag.spelling()) {
-        Some(Field::Etag)
-    } else if is_word(name, Field::Body.spelling()) {
-        Some(Field::Body)
-    } else if is_word(name, Field::MaxAge.spelling()) {
-        Some(Field::MaxAge)
-    } else if is_word(name, Field::Age.spelling()) {
-        Some(Field::Age)
-    } else if is_word(name, Field::Private.spelling()) {
-        Some(Field::Private)
-    } else if is_word(name, Field::NoStore.spelling()) {
-        Some(Field::NoStore)
-    } else if is_word(name, Field::NoCache.spelling()) {
-        Some(Field::NoCache)
-    } else if is_word(name, Field::Vary.spelling()) {
-        Some(Field::Vary)
-    } else if is_word(name, Field::Authorization.spelling()) {
-        Some(Field::Authorization)
-    } else {
-        None
     }
 }

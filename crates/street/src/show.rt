@@ -1,173 +1,139 @@
 // The lines of the output, as text.
-ghost use Rattle.std.specs.Prelude.{◌≡◌, ◌++◌, is_ok, if◌then◌else◌};
+use play::types::{Game, Judged, NONE, Shown, Source, What};
+use std::fmt;
 
-use play::types::{Game, Judged, NONE, Shown, Source, Verdict, What};
-use std::alloc::{AllocError, Global};
+/// What becomes of a command, as a line; nothing for what no client sees.
+#[derive(Clone, Copy)]
+pub(crate) struct Line<'a> {
+    pub(crate) game: &'a Game,
+    pub(crate) shown: Shown,
+}
 
-/// One line; none for what no client sees.
-pub(crate) fn put_shown(
-    heap: Global,
-    out: &mut Vec<u8>,
-    game: &Game,
-    shown: Shown,
-) -> Result<(), AllocError> {
-    match shown.what {
-        What::Quiet => Ok(()),
-        What::Nothing(c) => {
-            put_number(heap, out, shown.tick, 6)?;
-            put(out, b"  nothing is under way on connection ")?;
-            put_number(heap, out, c as u64, 1)?;
-            put(out, b"\n")
-        }
-        _ => {
-            put_who(heap, out, game, shown)?;
-            put_what(heap, out, game, shown)?;
-            put(out, b"\n")
+impl fmt::Display for Line<'_> {
+    fn fmt<W: fmt::Write>(&self, f: &mut fmt::Formatter<W>) -> fmt::Result {
+        let tick = self.shown.tick;
+        match self.shown.what {
+            What::Quiet => Ok(()),
+            What::Nothing(c) => writeln!(f, "{tick:>6}  nothing is under way on connection {c}"),
+            _ => {
+                self.fmt_who(f)?;
+                self.fmt_what(f)?;
+                writeln!(f)
+            }
         }
     }
 }
 
-/// The tick, the client and what it asks for.
-fn put_who(heap: Global, out: &mut Vec<u8>, game: &Game, shown: Shown) -> Result<(), AllocError> {
-    put_number(heap, out, shown.tick, 6)?;
-    put(out, b"  ")?;
-    put_name(out, game, shown.client, 10)?;
-    put(out, if shown.write { b"writes " } else { b"reads  " })?;
-    put_name(out, game, shown.path, 12)?;
-    put_name(out, game, shown.language, 4)
-}
-
-fn put_what(heap: Global, out: &mut Vec<u8>, game: &Game, shown: Shown) -> Result<(), AllocError> {
-    match shown.what {
-        What::Quiet | What::Nothing(_) => Ok(()),
-        What::Forwarded(c, etag) => put_forwarded(heap, out, game, c, etag),
-        What::Given(source, body, judged) => {
-            put_name(out, game, body, 14)?;
-            put_judged(heap, out, source, judged)
-        }
-        What::Status(status) => {
-            put(
-                out,
-                if shown.write {
-                    b"refused: "
-                } else {
-                    b"answer: "
-                },
-            )?;
-            put_number(heap, out, status, 1)
-        }
-        What::Done => put(out, b"done"),
-        What::Lost => put(out, b"lost"),
-        What::Refused => put(out, b"refused: 10, no connection is free"),
-        What::Faulty => put(out, b"refused: 7, no such answer to this request"),
+impl Line<'_> {
+    /// The tick, the client and what it asks for.
+    fn fmt_who<W: fmt::Write>(&self, f: &mut fmt::Formatter<W>) -> fmt::Result {
+        let tick = self.shown.tick;
+        let client = self.name(self.shown.client);
+        let verb = if self.shown.write { "writes" } else { "reads" };
+        let path = self.name(self.shown.path);
+        let language = self.name(self.shown.language);
+        write!(f, "{tick:>6}  {client:<10}{verb:<7}{path:<12}{language:<4}")
     }
-}
 
-fn put_forwarded(
-    heap: Global,
-    out: &mut Vec<u8>,
-    game: &Game,
-    c: usize,
-    etag: usize,
-) -> Result<(), AllocError> {
-    put(out, b"-> connection ")?;
-    put_number(heap, out, c as u64, 1)?;
-    if etag == NONE {
-        return Ok(());
+    fn fmt_what<W: fmt::Write>(&self, f: &mut fmt::Formatter<W>) -> fmt::Result {
+        match self.shown.what {
+            What::Quiet | What::Nothing(_) => Ok(()),
+            What::Forwarded(c, NONE) => write!(f, "-> connection {c}"),
+            What::Forwarded(c, etag) => {
+                let etag = self.name(etag);
+                write!(f, "-> connection {c}, if not etag {etag}")
+            }
+            What::Given(source, body, judged) => {
+                let body = self.name(body);
+                write!(f, "{body:<14}")?;
+                fmt_judged(f, source, judged)
+            }
+            What::Status(status) if self.shown.write => write!(f, "refused: {status}"),
+            What::Status(status) => write!(f, "answer: {status}"),
+            What::Done => write!(f, "done"),
+            What::Lost => write!(f, "lost"),
+            What::Refused => write!(f, "refused: 10, no connection is free"),
+            What::Faulty => write!(f, "refused: 7, no such answer to this request"),
+        }
     }
-    put(out, b", if not etag ")?;
-    put_name(out, game, etag, 0)
+
+    fn name(&self, number: usize) -> Name<'_> {
+        Name {
+            game: self.game,
+            number,
+        }
+    }
 }
 
 /// From where, how long ago it was so, and of which lifetime; and what is wrong, if it is not as promised.
-fn put_judged(
-    heap: Global,
-    out: &mut Vec<u8>,
+fn fmt_judged<W: fmt::Write>(
+    f: &mut fmt::Formatter<W>,
     source: Source,
     judged: Judged,
-) -> Result<(), AllocError> {
-    put(
-        out,
-        match source {
-            Source::Kept => b"kept   ",
-            Source::Owner => b"owner  ",
-        },
-    )?;
-    if judged.ago == 0 {
-        put(out, b"so now")?;
+) -> fmt::Result {
+    let from = match source {
+        Source::Kept => "kept",
+        Source::Owner => "owner",
+    };
+    let Judged {
+        verdict,
+        ago,
+        lifetime,
+    } = judged;
+    write!(f, "{from:<7}")?;
+    if ago == 0 {
+        write!(f, "so now, of {lifetime}")?;
     } else {
-        put(out, b"so ")?;
-        put_number(heap, out, judged.ago, 1)?;
-        put(out, b" s ago")?;
+        write!(f, "so {ago} s ago, of {lifetime}")?;
     }
-    put(out, b", of ")?;
-    put_number(heap, out, judged.lifetime, 1)?;
-    put(out, wrong(judged.verdict))
+    if verdict.is_kept() {
+        Ok(())
+    } else {
+        write!(f, "  NOT AS PROMISED: {verdict}")
+    }
 }
 
-fn wrong(verdict: Verdict) -> &'static [u8] {
-    match verdict {
-        Verdict::AsPromised => b"",
-        Verdict::NeverSo => b"  NOT AS PROMISED: the origin never had it",
-        Verdict::NotSince => b"  NOT AS PROMISED: not so since it was forwarded",
-        Verdict::TooOld => b"  NOT AS PROMISED: older than the origin allows",
-        Verdict::BeforeWrite => b"  NOT AS PROMISED: from before an acknowledged write",
-        Verdict::NotShared => b"  NOT AS PROMISED: it was for one client only",
-        Verdict::OtherClient => b"  NOT AS PROMISED: another client had asked",
+/// A name of the play, as text.
+#[derive(Clone, Copy)]
+struct Name<'a> {
+    game: &'a Game,
+    number: usize,
+}
+
+impl fmt::Display for Name<'_> {
+    fn fmt<W: fmt::Write>(&self, f: &mut fmt::Formatter<W>) -> fmt::Result {
+        let name = self.game.names.name(self.number);
+        // A script's names are bytes that can be printed.
+        f.pad(str::from_utf8(name.as_slice()).unwrap_or("?"))
     }
 }
 
 /// The counts and the verdict.
-pub(crate) fn put_end(heap: Global, out: &mut Vec<u8>, game: &Game) -> Result<(), AllocError> {
-    put_count(heap, out, b"from the store  ", game.counts.kept)?;
-    put_count(heap, out, b"from the origin ", game.counts.owner)?;
-    put_count(heap, out, b"writes done     ", game.counts.writes)?;
-    put_count(heap, out, b"other answers   ", game.counts.others)?;
-    put_count(heap, out, b"lost            ", game.counts.lost)?;
-    put_count(heap, out, b"refused         ", game.counts.refused)?;
-    put_count(heap, out, b"stored now      ", game.stored() as u64)?;
-    match game.broken {
-        None => put(out, b"as promised\n"),
-        Some(shown) => {
-            put(out, b"the first that was not as promised:\n")?;
-            put_shown(heap, out, game, shown)
+#[derive(Clone, Copy)]
+pub(crate) struct End<'a> {
+    pub(crate) game: &'a Game,
+}
+
+impl fmt::Display for End<'_> {
+    fn fmt<W: fmt::Write>(&self, f: &mut fmt::Formatter<W>) -> fmt::Result {
+        let counts = self.game.counts;
+        let stored = self.game.stored();
+        writeln!(f, "from the store  {:>6}", counts.kept)?;
+        writeln!(f, "from the origin {:>6}", counts.owner)?;
+        writeln!(f, "writes done     {:>6}", counts.writes)?;
+        writeln!(f, "other answers   {:>6}", counts.others)?;
+        writeln!(f, "lost            {:>6}", counts.lost)?;
+        writeln!(f, "refused         {:>6}", counts.refused)?;
+        writeln!(f, "stored now      {stored:>6}")?;
+        match self.game.broken {
+            None => writeln!(f, "as promised"),
+            Some(shown) => {
+                let line = Line {
+                    game: self.game,
+                    shown,
+                };
+                write!(f, "the first that was not as promised:\n{line}")
+            }
         }
     }
-}
-
-fn put_count(heap: Global, out: &mut Vec<u8>, what: &[u8], count: u64) -> Result<(), AllocError> {
-    put(out, what)?;
-    put_number(heap, out, count, 6)?;
-    put(out, b"\n")
-}
-
-fn put(out: &mut Vec<u8>, bytes: &[u8]) -> Result<(), AllocError>
-    ensures { out.new.items ≡ (if is_ok result then out.old.items ++ bytes.now else out.old.items) }
-{
-    out.extend_from_slice(bytes)
-}
-
-/// A name, with blanks behind it up to a width.
-fn put_name(out: &mut Vec<u8>, game: &Game, name: usize, width: usize) -> Result<(), AllocError> {
-    let text = game.names.name(name);
-    let bytes = text.as_slice();
-    put(out, bytes)?;
-    for _ in bytes.len()..width {
-        put(out, b" ")?;
-    }
-    Ok(())
-}
-
-/// A number, with blanks before it up to a width.
-fn put_number(
-    heap: Global,
-    out: &mut Vec<u8>,
-    number: u64,
-    width: usize,
-) -> Result<(), AllocError> {
-    let text = format!(in heap; "{number}")?;
-    for _ in text.len()..width {
-        put(out, b" ")?;
-    }
-    put(out, text.as_bytes())
 }
