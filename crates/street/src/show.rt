@@ -1,7 +1,7 @@
 // The lines of the output, as text.
 ghost use Rattle.std.specs.Prelude.{◌≡◌, ◌++◌, is_ok, if◌then◌else◌};
 
-use play::types::{Game, Judged, NONE, Shown, Source, Verdict, What};
+use play::types::{Breach, Game, Judged, NONE, Shown, Source, What};
 use std::alloc::{AllocError, Global};
 
 /// One line; none for what no client sees.
@@ -105,15 +105,15 @@ fn put_judged(
     put(out, wrong(judged.verdict))
 }
 
-fn wrong(verdict: Verdict) -> &'static [u8] {
+fn wrong(verdict: Result<(), Breach>) -> &'static [u8] {
     match verdict {
-        Verdict::AsPromised => b"",
-        Verdict::NeverSo => b"  NOT AS PROMISED: the origin never had it",
-        Verdict::NotSince => b"  NOT AS PROMISED: not so since it was forwarded",
-        Verdict::TooOld => b"  NOT AS PROMISED: older than the origin allows",
-        Verdict::BeforeWrite => b"  NOT AS PROMISED: from before an acknowledged write",
-        Verdict::NotShared => b"  NOT AS PROMISED: it was for one client only",
-        Verdict::OtherClient => b"  NOT AS PROMISED: another client had asked",
+        Ok(()) => b"",
+        Err(Breach::NeverSo) => b"  NOT AS PROMISED: the origin never had it",
+        Err(Breach::NotSince) => b"  NOT AS PROMISED: not so since it was forwarded",
+        Err(Breach::TooOld) => b"  NOT AS PROMISED: older than the origin allows",
+        Err(Breach::BeforeWrite) => b"  NOT AS PROMISED: from before an acknowledged write",
+        Err(Breach::NotShared) => b"  NOT AS PROMISED: it was for one client only",
+        Err(Breach::OtherClient) => b"  NOT AS PROMISED: another client had asked",
     }
 }
 
