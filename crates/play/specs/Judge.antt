@@ -1,12 +1,12 @@
 -- The judge's rules, over the history of a run and nothing else: what the origin had, what it answered, which writes were settled.
 --
---   latest_of     the latest moment at which the origin had a version, from its changes in their order
+--   latest_on     the latest moment at which the origin had a version, from its changes in their order
 --   lasts_past    it was so at an event later than this one, or still is
 --   ago_of        how many ticks ago that moment is
 --   same_version  two versions are one
 --   is_fresh      an answer lets a version be shown at this tick: neither private nor `no-cache`, to a request that
 --                 allowed storing, and with a lifetime that is not over, counted from the forwarding
---   lifetime_of   the lifetime in the last answer that lets it be shown, 0 if there is none
+--   lifetime_on   the lifetime in the last answer that lets it be shown, 0 if there is none
 --   is_undone     a write to the path that was settled before an event, and done after the latest moment
 --   is_withdrawing a private word about what an answer brought, received later than it
 --   is_shared     a whole answer, not private, to a request that allowed storing, with no private word since
@@ -38,8 +38,8 @@ leaves Still m = Until m
 abbrev pub seen_change : Version → Latest → Change → Latest
 seen_change v acc c = cond (c.version.resource == v.resource) (cond (c.version.text == v.text) Still (leaves acc c.since)) acc
 
-abbrev pub latest_of : Version → List Change → Latest
-latest_of v cs = fold (seen_change v) Never cs
+abbrev pub latest_on : Version → List Change → Latest
+latest_on v cs = fold (seen_change v) Never cs
 
 abbrev pub lasts_past : Latest → ℕ → Bool
 lasts_past Never e = false
@@ -57,8 +57,8 @@ same_version v w = v.resource == w.resource && v.text == w.text
 abbrev pub is_fresh : Version → ℕ → Received → Bool
 is_fresh v now a = same_version a.version v && (not a.words.private && (not a.words.no_cache && (a.storable && nat_le (now - a.forwarded) a.words.lifetime)))
 
-abbrev pub lifetime_of : Version → ℕ → List Received → ℕ
-lifetime_of v now rs = fold (λ life a. cond (is_fresh v now a) a.words.lifetime life) 0 rs
+abbrev pub lifetime_on : Version → ℕ → List Received → ℕ
+lifetime_on v now rs = fold (λ life a. cond (is_fresh v now a) a.words.lifetime life) 0 rs
 
 abbrev pub is_undone : ℕ → ℕ → Latest → Settled → Bool
 is_undone path before latest w = w.path == path && (nat_lt w.event before && not (lasts_past latest w.done))
@@ -85,16 +85,16 @@ owner_verdict latest since undone =
 -- what is judged of an answer from the store, at a moment
 abbrev pub kept_judged : History → Given → Moment → Judged
 kept_judged h g now = record {
-  verdict = kept_verdict (latest_of g.version h.changes.items) (ago_of (latest_of g.version h.changes.items) now.tick) (lifetime_of g.version now.tick h.answers.items)
-      (list_any (is_undone g.path now.event (latest_of g.version h.changes.items)) h.writes.items) (list_any (is_shared h.answers.items g.version) h.answers.items);
-  ago = ago_of (latest_of g.version h.changes.items) now.tick;
-  lifetime = lifetime_of g.version now.tick h.answers.items;
+  verdict = kept_verdict (latest_on g.version h.changes.items) (ago_of (latest_on g.version h.changes.items) now.tick) (lifetime_on g.version now.tick h.answers.items)
+      (list_any (is_undone g.path now.event (latest_on g.version h.changes.items)) h.writes.items) (list_any (is_shared h.answers.items g.version) h.answers.items);
+  ago = ago_of (latest_on g.version h.changes.items) now.tick;
+  lifetime = lifetime_on g.version now.tick h.answers.items;
 }
 
 -- what is judged of an answer of the origin's to what was forwarded at the event `since`
 abbrev pub owner_judged : History → Given → ℕ → ℕ → ℕ → Judged
 owner_judged h g since life now = record {
-  verdict = owner_verdict (latest_of g.version h.changes.items) since (list_any (is_undone g.path since (latest_of g.version h.changes.items)) h.writes.items);
-  ago = ago_of (latest_of g.version h.changes.items) now;
+  verdict = owner_verdict (latest_on g.version h.changes.items) since (list_any (is_undone g.path since (latest_on g.version h.changes.items)) h.writes.items);
+  ago = ago_of (latest_on g.version h.changes.items) now;
   lifetime = life;
 }

@@ -9,7 +9,7 @@
 --   connection_of a connection, from 0 to 7
 --
 -- Assumes nothing.
-use Rattle.std.specs.Prelude.{◌≡◌, ℕ, ◌+◌, ◌-◌, ◌^◌, min, Bool, true, false, cond, ◌||◌, Some, None, Ok, Err, Option, Result, nat_lt}
+use Rattle.std.specs.Prelude.{◌≡◌, ℕ, ◌+◌, ◌-◌, ◌^◌, min, Bool, false, cond, ◌||◌, Some, None, Ok, Err, Option, Result, nat_lt}
 use Rattle.std.specs.Result.{is_err}
 use Rattle.cache.specs.declared.types.Words.{Words}
 use Rattle.play.specs.declared.types.Counts.{Counts}

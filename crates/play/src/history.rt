@@ -4,6 +4,7 @@ ghost use Rattle.std.specs.Prelude.{◌≡◌, [], ◌∷◌, ◌++◌, is_ok, i
 use crate::types::{Change, History, Received, ScriptError, Settled};
 use std::alloc::Global;
 
+// Three that note, and none for all lists: each is one push, and says that the other two lists stay.
 impl History {
     pub fn new(heap: Global) -> History
         ensures changes { result.changes.items ≡ [] }

@@ -1,7 +1,7 @@
 // The judge: every answer is held to what the origin had, by the history of the run and nothing else.
 ghost use Rattle.std.specs.Prelude.{◌≡◌};
 ghost use Rattle.std.specs.List.{list_any};
-ghost use Rattle.play.specs.Judge.{leaves, seen_change, latest_of, lasts_past, ago_of, is_fresh, lifetime_of, is_undone, is_withdrawing, is_shared, kept_judged, owner_judged};
+ghost use Rattle.play.specs.Judge.{leaves, seen_change, latest_on, lasts_past, ago_of, is_fresh, lifetime_on, is_undone, is_withdrawing, is_shared, kept_judged, owner_judged};
 
 use crate::types::{
     Breach, Change, Given, History, Judged, Latest, Moment, Received, Settled, Version,
@@ -33,7 +33,7 @@ impl History {
         }
     }
 
-    /// Judges an answer of the origin's to what was forwarded at the event `since`.
+    /// Judges, at a tick, an answer of the origin's to what was forwarded at the event `since`.
     pub fn judge_owner(&self, given: Given, since: u64, lifetime: u64, tick: u64) -> Judged
         ensures { result ≡ owner_judged self.now given since lifetime tick }
     {
@@ -57,11 +57,12 @@ impl History {
 
 /// The latest moment at which the origin had a version.
 pub fn latest_moment(changes: &[Change], version: Version) -> Latest
-    ensures { result ≡ latest_of version changes.now }
+    ensures { result ≡ latest_on version changes.now }
 {
-    changes
-        .iter()
-        .fold(Latest::Never, |latest, change| latest.seen(*change, version))
+    changes.iter().fold(
+        Latest::Never,
+        |latest, change| latest.seen(*change, version),
+    )
 }
 
 impl Latest {
@@ -112,7 +113,7 @@ impl Latest {
 
 /// The lifetime in the last answer that lets a version be shown at this tick; 0 if none does.
 pub fn said_lifetime(answers: &[Received], version: Version, tick: u64) -> u64
-    ensures { result ≡ lifetime_of version tick answers.now }
+    ensures { result ≡ lifetime_on version tick answers.now }
 {
     answers.iter().fold(0, |lifetime, answer| {
         if answer.is_fresh(version, tick) {
