@@ -12,16 +12,23 @@ impl History {
     pub fn judge_kept(&self, given: Given, now: Moment) -> Judged
         ensures { result ≡ kept_judged self.now given now }
     {
-        let latest = latest_moment(&self.changes, given.version);
+        let Some(version) = given.version else {
+            return Judged {
+                verdict: Err(Breach::NeverSo),
+                ago: 0,
+                lifetime: 0,
+            };
+        };
+        let latest = latest_moment(&self.changes, version);
         let ago = latest.ago(now.tick);
-        let lifetime = said_lifetime(&self.answers, given.version, now.tick);
+        let lifetime = said_lifetime(&self.answers, version, now.tick);
         let verdict = if latest == Latest::Never {
             Err(Breach::NeverSo)
         } else if lifetime == 0 || ago > lifetime {
             Err(Breach::TooOld)
         } else if any_undone(&self.writes, given.path, now.event, latest) {
             Err(Breach::BeforeWrite)
-        } else if any_shared(&self.answers, given.version) {
+        } else if any_shared(&self.answers, version) {
             Ok(())
         } else {
             Err(Breach::NotShared)
@@ -37,7 +44,14 @@ impl History {
     pub fn judge_owner(&self, given: Given, since: u64, lifetime: u64, tick: u64) -> Judged
         ensures { result ≡ owner_judged self.now given since lifetime tick }
     {
-        let latest = latest_moment(&self.changes, given.version);
+        let Some(version) = given.version else {
+            return Judged {
+                verdict: Err(Breach::NeverSo),
+                ago: 0,
+                lifetime,
+            };
+        };
+        let latest = latest_moment(&self.changes, version);
         let verdict = if latest == Latest::Never {
             Err(Breach::NeverSo)
         } else if !latest.lasts_past(since) {
