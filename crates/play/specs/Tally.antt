@@ -2,7 +2,6 @@
 --
 --   words_of      what the origin says, in the cache's terms: of the lifetime, at most a day, the age is over
 --   counted       the counts with one more that happened; `more` stops at the largest number
---   is_kept       a verdict is 'as promised'
 --   is_broken     what became of a command was not as promised
 --   first_broken  the first that was not as promised
 --   of_client     what is judged, if the client that is given it is the one that asked
@@ -10,7 +9,8 @@
 --   connection_of a connection, from 0 to 7
 --
 -- Assumes nothing.
-use Rattle.std.specs.Prelude.{◌≡◌, ℕ, ◌+◌, ◌-◌, ◌^◌, min, Bool, true, false, cond, not, ◌||◌, Some, None, Ok, Err, Option, Result, nat_lt}
+use Rattle.std.specs.Prelude.{◌≡◌, ℕ, ◌+◌, ◌-◌, ◌^◌, min, Bool, false, cond, ◌||◌, Some, None, Ok, Err, Option, Result, nat_lt}
+use Rattle.std.specs.Result.{is_err}
 use Rattle.cache.specs.declared.types.Words.{Words}
 use Rattle.play.specs.declared.types.Counts.{Counts}
 use Rattle.play.specs.declared.types.Judged.{Judged}
@@ -19,8 +19,7 @@ use Rattle.play.specs.declared.types.ScriptError.{ScriptError}
 use Rattle.play.specs.declared.types.ScriptError.TheVariants.{NoConnection}
 use Rattle.play.specs.declared.types.Source.{Source}
 use Rattle.play.specs.declared.types.Source.TheVariants.{Kept, Owner}
-use Rattle.play.specs.declared.types.Verdict.{Verdict}
-use Rattle.play.specs.declared.types.Verdict.TheVariants.{AsPromised, NeverSo, NotSince, TooOld, BeforeWrite, NotShared, OtherClient}
+use Rattle.play.specs.declared.types.Breach.TheVariants.{OtherClient}
 use Rattle.play.specs.declared.types.What.{What}
 use Rattle.play.specs.declared.types.What.TheVariants.{Quiet, Nothing, Forwarded, Given, Status, Done, Lost, Refused, Faulty}
 use Rattle.play.specs.Script.{Said}
@@ -46,20 +45,11 @@ counted Lost c = record { kept = c.kept; owner = c.owner; writes = c.writes; oth
 counted Refused c = record { kept = c.kept; owner = c.owner; writes = c.writes; others = c.others; lost = c.lost; refused = more c.refused }
 counted Faulty c = record { kept = c.kept; owner = c.owner; writes = c.writes; others = more c.others; lost = c.lost; refused = c.refused }
 
-abbrev pub is_kept : Verdict → Bool
-is_kept AsPromised = true
-is_kept NeverSo = false
-is_kept NotSince = false
-is_kept TooOld = false
-is_kept BeforeWrite = false
-is_kept NotShared = false
-is_kept OtherClient = false
-
 abbrev pub is_broken : What → Bool
 is_broken Quiet = false
 is_broken (Nothing n) = false
 is_broken (Forwarded n etag) = false
-is_broken (Given source body judged) = not (is_kept judged.verdict)
+is_broken (Given source body judged) = is_err judged.verdict
 is_broken (Status s) = false
 is_broken Done = false
 is_broken Lost = false
@@ -71,7 +61,7 @@ first_broken (Some s) t = Some s
 first_broken None t = cond (is_broken t.what) (Some t) None
 
 abbrev pub of_client : Bool → Judged → Judged
-of_client same j = cond same j (record { verdict = OtherClient; ago = j.ago; lifetime = j.lifetime })
+of_client same j = cond same j (record { verdict = Err OtherClient; ago = j.ago; lifetime = j.lifetime })
 
 abbrev pub connection_of : Option ℕ → Result ℕ ScriptError
 connection_of None = Err NoConnection

@@ -1,14 +1,14 @@
--- What is said of errors and verdicts, in words.
+-- What is said of errors and breaches, in words.
 --
 --   error_text    of what is wrong with a line
---   verdict_text  of a verdict
+--   breach_text   of how an answer breaks the promise
 --
 -- Assumes nothing.
 use Rattle.std.specs.Prelude.{ℕ, List, codes}
 use Rattle.play.specs.declared.types.ScriptError.{ScriptError}
 use Rattle.play.specs.declared.types.ScriptError.TheVariants as error
-use Rattle.play.specs.declared.types.Verdict.{Verdict}
-use Rattle.play.specs.declared.types.Verdict.TheVariants as verdict
+use Rattle.play.specs.declared.types.Breach.{Breach}
+use Rattle.play.specs.declared.types.Breach.TheVariants as breach
 
 abbrev pub error_text : ScriptError → List ℕ
 error_text error.Unprintable = codes "a byte that can't be printed"
@@ -27,11 +27,10 @@ error_text error.OtherBody = codes "this etag belongs to another body"
 error_text error.OtherVary = codes "the path varied otherwise before"
 error_text error.NoMemory = codes "no memory is left"
 
-abbrev pub verdict_text : Verdict → List ℕ
-verdict_text verdict.AsPromised = codes "as promised"
-verdict_text verdict.NeverSo = codes "the origin never had it"
-verdict_text verdict.NotSince = codes "not so since it was forwarded"
-verdict_text verdict.TooOld = codes "older than the origin allows"
-verdict_text verdict.BeforeWrite = codes "from before an acknowledged write"
-verdict_text verdict.NotShared = codes "it was for one client only"
-verdict_text verdict.OtherClient = codes "another client had asked"
+abbrev pub breach_text : Breach → List ℕ
+breach_text breach.NeverSo = codes "the origin never had it"
+breach_text breach.NotSince = codes "not so since it was forwarded"
+breach_text breach.TooOld = codes "older than the origin allows"
+breach_text breach.BeforeWrite = codes "from before an acknowledged write"
+breach_text breach.NotShared = codes "it was for one client only"
+breach_text breach.OtherClient = codes "another client had asked"

@@ -1,11 +1,10 @@
 // What was so, in the order in which it happened: it only grows.
 ghost use Rattle.std.specs.Prelude.{◌≡◌, [], ◌∷◌, ◌++◌, is_ok, if◌then◌else◌};
-ghost use Rattle.play.specs.Judge.{kept_judged, owner_judged};
 
-use crate::judge::{judge_kept, judge_owner};
-use crate::types::{Change, Given, History, Judged, Received, ScriptError, Settled};
+use crate::types::{Change, History, Received, ScriptError, Settled};
 use std::alloc::Global;
 
+// Three that note, and none for all lists: each is one push, and says that the other two lists stay.
 impl History {
     pub fn new(heap: Global) -> History
         ensures changes { result.changes.items ≡ [] }
@@ -25,10 +24,8 @@ impl History {
         ensures answers { self.new.answers ≡ self.old.answers }
         ensures writes { self.new.writes ≡ self.old.writes }
     {
-        match self.changes.push(change) {
-            Ok(()) => Ok(()),
-            Err(_) => Err(ScriptError::NoMemory),
-        }
+        self.changes.push(change)?;
+        Ok(())
     }
 
     /// The cache received an answer to a read.
@@ -37,10 +34,8 @@ impl History {
         ensures answers { self.new.answers.items ≡ (if is_ok result then self.old.answers.items ++ answer ∷ [] else self.old.answers.items) }
         ensures writes { self.new.writes ≡ self.old.writes }
     {
-        match self.answers.push(answer) {
-            Ok(()) => Ok(()),
-            Err(_) => Err(ScriptError::NoMemory),
-        }
+        self.answers.push(answer)?;
+        Ok(())
     }
 
     /// A write was settled.
@@ -49,30 +44,7 @@ impl History {
         ensures answers { self.new.answers ≡ self.old.answers }
         ensures writes { self.new.writes.items ≡ (if is_ok result then self.old.writes.items ++ write ∷ [] else self.old.writes.items) }
     {
-        match self.writes.push(write) {
-            Ok(()) => Ok(()),
-            Err(_) => Err(ScriptError::NoMemory),
-        }
-    }
-
-    /// Judges an answer from the store.
-    pub fn judge_kept(&self, given: Given, event: u64, tick: u64) -> Judged
-        ensures { result ≡ kept_judged self.now.changes.items self.now.answers.items self.now.writes.items given event tick }
-    {
-        judge_kept(
-            &self.changes,
-            &self.answers,
-            &self.writes,
-            given,
-            event,
-            tick,
-        )
-    }
-
-    /// Judges an answer of the origin's to what was forwarded at the event `since`.
-    pub fn judge_owner(&self, given: Given, since: u64, lifetime: u64, tick: u64) -> Judged
-        ensures { result ≡ owner_judged self.now.changes.items self.now.writes.items given since lifetime tick }
-    {
-        judge_owner(&self.changes, &self.writes, given, since, lifetime, tick)
+        self.writes.push(write)?;
+        Ok(())
     }
 }

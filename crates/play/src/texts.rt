@@ -1,8 +1,8 @@
-// What is said of errors and verdicts, in words.
+// What is said of errors and breaches, in words.
 ghost use Rattle.std.specs.Prelude.{Some};
-ghost use Rattle.play.specs.Texts.{error_text, verdict_text};
+ghost use Rattle.play.specs.Texts.{error_text, breach_text};
 
-use crate::types::{ScriptError, Verdict};
+use crate::types::{ScriptError, Breach};
 use std::error::Error;
 use std::fmt;
 
@@ -32,18 +32,17 @@ impl fmt::Display for ScriptError {
 
 impl Error for ScriptError {}
 
-impl fmt::Display for Verdict {
-    ghost output = { λ v. Some (verdict_text v) };
+impl fmt::Display for Breach {
+    ghost output = { λ b. Some (breach_text b) };
 
     fn fmt<W: fmt::Write>(&self, f: &mut fmt::Formatter<W>) -> fmt::Result {
         match self {
-            Verdict::AsPromised => f.write_str("as promised"),
-            Verdict::NeverSo => f.write_str("the origin never had it"),
-            Verdict::NotSince => f.write_str("not so since it was forwarded"),
-            Verdict::TooOld => f.write_str("older than the origin allows"),
-            Verdict::BeforeWrite => f.write_str("from before an acknowledged write"),
-            Verdict::NotShared => f.write_str("it was for one client only"),
-            Verdict::OtherClient => f.write_str("another client had asked"),
+            Breach::NeverSo => f.write_str("the origin never had it"),
+            Breach::NotSince => f.write_str("not so since it was forwarded"),
+            Breach::TooOld => f.write_str("older than the origin allows"),
+            Breach::BeforeWrite => f.write_str("from before an acknowledged write"),
+            Breach::NotShared => f.write_str("it was for one client only"),
+            Breach::OtherClient => f.write_str("another client had asked"),
         }
     }
 }

@@ -86,10 +86,9 @@ fn fmt_judged<W: fmt::Write>(
     } else {
         write!(f, "so {ago} s ago, of {lifetime}")?;
     }
-    if verdict.is_kept() {
-        Ok(())
-    } else {
-        write!(f, "  NOT AS PROMISED: {verdict}")
+    match verdict {
+        Ok(()) => Ok(()),
+        Err(breach) => write!(f, "  NOT AS PROMISED: {breach}"),
     }
 }
 
