@@ -1,7 +1,7 @@
 // The lines of the output, as text.
 ghost use Rattle.std.specs.Prelude.{◌≡◌, ◌++◌, is_ok, if◌then◌else◌};
 
-use play::types::{Game, Judged, NONE, Shown, Source, Verdict, What};
+use play::types::{Game, Judged, Shown, Source, Verdict, What};
 use std::alloc::{AllocError, Global};
 
 /// One line; none for what no client sees.
@@ -31,10 +31,13 @@ pub(crate) fn put_shown(
 fn put_who(heap: Global, out: &mut Vec<u8>, game: &Game, shown: Shown) -> Result<(), AllocError> {
     put_number(heap, out, shown.tick, 6)?;
     put(out, b"  ")?;
-    put_name(out, game, shown.client, 10)?;
-    put(out, if shown.write { b"writes " } else { b"reads  " })?;
-    put_name(out, game, shown.path, 12)?;
-    put_name(out, game, shown.language, 4)
+    let Some(who) = shown.who else {
+        return Ok(());
+    };
+    put_name(out, game, Some(who.client), 10)?;
+    put(out, if who.write { b"writes " } else { b"reads  " })?;
+    put_name(out, game, Some(who.key.path), 12)?;
+    put_name(out, game, who.key.language, 4)
 }
 
 fn put_what(heap: Global, out: &mut Vec<u8>, game: &Game, shown: Shown) -> Result<(), AllocError> {
@@ -48,7 +51,7 @@ fn put_what(heap: Global, out: &mut Vec<u8>, game: &Game, shown: Shown) -> Resul
         What::Status(status) => {
             put(
                 out,
-                if shown.write {
+                if shown.who.is_some_and(|who| who.write) {
                     b"refused: "
                 } else {
                     b"answer: "
@@ -68,11 +71,11 @@ fn put_forwarded(
     out: &mut Vec<u8>,
     game: &Game,
     c: usize,
-    etag: usize,
+    etag: Option<usize>,
 ) -> Result<(), AllocError> {
     put(out, b"-> connection ")?;
     put_number(heap, out, c as u64, 1)?;
-    if etag == NONE {
+    if etag.is_none() {
         return Ok(());
     }
     put(out, b", if not etag ")?;
@@ -148,9 +151,13 @@ fn put(out: &mut Vec<u8>, bytes: &[u8]) -> Result<(), AllocError>
 }
 
 /// A name, with blanks behind it up to a width.
-fn put_name(out: &mut Vec<u8>, game: &Game, name: usize, width: usize) -> Result<(), AllocError> {
-    let text = game.names.name(name);
-    let bytes = text.as_slice();
+fn put_name(
+    out: &mut Vec<u8>,
+    game: &Game,
+    name: Option<usize>,
+    width: usize,
+) -> Result<(), AllocError> {
+    let bytes = game.names.name_if_some(name);
     put(out, bytes)?;
     for _ in bytes.len()..width {
         put(out, b" ")?;
