@@ -56,7 +56,7 @@ impl Names {
         if self.items.len() >= MOST_NAMES {
             return Err(ScriptError::ManyNames);
         }
-        let owned = name.to_vec(self.heap)?;
+        let owned = name.to_vec(self.heap).map_err(|_| ScriptError::NoMemory)?;
         let (number, _) = self.items.insert_full(owned)?;
         Ok(number)
     }
