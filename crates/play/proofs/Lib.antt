@@ -1,5 +1,4 @@
 -- Lemmas that several proofs share.
-pub mod Folds
 pub mod Lines
 pub mod Readings
 pub mod Steps

@@ -1,51 +1,51 @@
 // The names of a play, by number.
-ghost use Rattle.std.specs.Prelude.{◌≡◌, [], length};
-ghost use Rattle.array_store.specs.Shorts.{short_of};
-ghost use Rattle.lists.specs.Firsts.{found};
-ghost use Rattle.play.specs.Tables.{is_named, name_of, number_of_name, Interned};
+ghost use Rattle.std.specs.Prelude.{◌≡◌, []};
+ghost use Rattle.play.specs.Tables.{name_of, name_if_some, number_of_name, Interned, InternedIfSome};
 
-use crate::types::{MOST_NAMES, NAME_BYTES, NONE, Names, ScriptError};
-use array_store::types::Short;
+use crate::types::{MOST_NAMES, NAME_BYTES, Names, ScriptError};
+use indexmap::IndexSet;
 use std::alloc::Global;
 
 impl Names {
     pub fn new(heap: Global) -> Names
-        ensures { result.items.items ≡ [] }
+        ensures { result.items.keys ≡ [] }
     {
         Names {
-            items: Vec::new(heap),
+            heap,
+            items: IndexSet::new(heap),
         }
     }
 
     /// The name with a number; empty past the last.
-    pub fn name(&self, number: usize) -> Short
-        ensures { short_of result ≡ name_of self.now.items.items number }
+    pub fn name(&self, number: usize) -> &[u8]
+        ensures { result.now ≡ name_of self.now.items.keys number }
     {
-        if number == NONE {
-            return Short::empty();
+        match self.items.get_index(number) {
+            None => &[],
+            Some(name) => name.as_slice(),
         }
-        match self.items.get(number - 1) {
-            None => Short::empty(),
-            Some(name) => *name,
+    }
+
+    /// The same, and the empty name for no number.
+    pub fn name_if_some(&self, number: Option<usize>) -> &[u8]
+        ensures { result.now ≡ name_if_some self.now.items.keys number }
+    {
+        match number {
+            None => &[],
+            Some(number) => self.name(number),
         }
     }
 
     /// The number of a name, if it has one.
     pub fn number(&self, name: &[u8]) -> Option<usize>
-        ensures { result ≡ number_of_name self.now.items.items name.now }
+        ensures { result ≡ number_of_name self.now.items.keys name.now }
     {
-        if name.len() == 0 {
-            return Some(NONE);
-        }
-        match find_name(&self.items, name) {
-            None => None,
-            Some(i) => Some(i + 1),
-        }
+        self.items.get_index_of(name)
     }
 
     /// The number of a name, which it is given if it has none.
     pub fn intern(&mut self, name: &[u8]) -> Result<usize, ScriptError>
-        ensures { Interned self.old.items.items self.new.items.items name.now result }
+        ensures { Interned self.old.items.keys self.new.items.keys name.now result }
     {
         if name.len() > NAME_BYTES {
             return Err(ScriptError::LongName);
@@ -56,20 +56,18 @@ impl Names {
         if self.items.len() >= MOST_NAMES {
             return Err(ScriptError::ManyNames);
         }
-        match self.items.push(Short::new(name)) {
-            Ok(()) => Ok(self.items.len()),
-            Err(_) => Err(ScriptError::NoMemory),
-        }
+        let owned = name.to_vec(self.heap).map_err(|_| ScriptError::NoMemory)?;
+        let (number, _) = self.items.insert_full(owned)?;
+        Ok(number)
     }
-}
 
-fn find_name(items: &[Short], name: &[u8]) -> Option<usize>
-    ensures { result ≡ found (is_named name.now) items.now }
-{
-    for (i, item) in items.iter().enumerate() {
-        if item.is(name) {
-            return Some(i);
+    /// The same, and no number for the empty name.
+    pub fn intern_if_some(&mut self, name: &[u8]) -> Result<Option<usize>, ScriptError>
+        ensures { InternedIfSome self.old.items.keys self.new.items.keys name.now result }
+    {
+        if name.is_empty() {
+            return Ok(None);
         }
+        Ok(Some(self.intern(name)?))
     }
-    None
 }

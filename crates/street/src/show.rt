@@ -1,5 +1,5 @@
 // The lines of the output, as text.
-use play::types::{Game, Judged, NONE, Shown, Source, What};
+use play::types::{Game, Judged, Shown, Source, What};
 use std::fmt;
 
 /// What becomes of a command, as a line; nothing for what no client sees.
@@ -28,17 +28,21 @@ impl Line<'_> {
     /// The tick, the client and what it asks for.
     fn fmt_who<W: fmt::Write>(&self, f: &mut fmt::Formatter<W>) -> fmt::Result {
         let tick = self.shown.tick;
-        let client = self.name(self.shown.client);
-        let verb = if self.shown.write { "writes" } else { "reads" };
-        let path = self.name(self.shown.path);
-        let language = self.name(self.shown.language);
-        write!(f, "{tick:>6}  {client:<10}{verb:<7}{path:<12}{language:<4}")
+        write!(f, "{tick:>6}  ")?;
+        let Some(who) = self.shown.who else {
+            return Ok(());
+        };
+        let client = self.name(Some(who.client));
+        let verb = if who.write { "writes" } else { "reads" };
+        let path = self.name(Some(who.key.path));
+        let language = self.name(who.key.language);
+        write!(f, "{client:<10}{verb:<7}{path:<12}{language:<4}")
     }
 
     fn fmt_what<W: fmt::Write>(&self, f: &mut fmt::Formatter<W>) -> fmt::Result {
         match self.shown.what {
             What::Quiet | What::Nothing(_) => Ok(()),
-            What::Forwarded(c, NONE) => write!(f, "-> connection {c}"),
+            What::Forwarded(c, None) => write!(f, "-> connection {c}"),
             What::Forwarded(c, etag) => {
                 let etag = self.name(etag);
                 write!(f, "-> connection {c}, if not etag {etag}")
@@ -48,7 +52,7 @@ impl Line<'_> {
                 write!(f, "{body:<14}")?;
                 fmt_judged(f, source, judged)
             }
-            What::Status(status) if self.shown.write => write!(f, "refused: {status}"),
+            What::Status(status) if self.is_write() => write!(f, "refused: {status}"),
             What::Status(status) => write!(f, "answer: {status}"),
             What::Done => write!(f, "done"),
             What::Lost => write!(f, "lost"),
@@ -57,7 +61,11 @@ impl Line<'_> {
         }
     }
 
-    fn name(&self, number: usize) -> Name<'_> {
+    fn is_write(&self) -> bool {
+        self.shown.who.is_some_and(|who| who.write)
+    }
+
+    fn name(&self, number: Option<usize>) -> Name<'_> {
         Name {
             game: self.game,
             number,
@@ -96,14 +104,14 @@ fn fmt_judged<W: fmt::Write>(
 #[derive(Clone, Copy)]
 struct Name<'a> {
     game: &'a Game,
-    number: usize,
+    number: Option<usize>,
 }
 
 impl fmt::Display for Name<'_> {
     fn fmt<W: fmt::Write>(&self, f: &mut fmt::Formatter<W>) -> fmt::Result {
-        let name = self.game.names.name(self.number);
+        let name = self.game.names.name_if_some(self.number);
         // A script's names are bytes that can be printed.
-        f.pad(str::from_utf8(name.as_slice()).unwrap_or("?"))
+        f.pad(str::from_utf8(name).unwrap_or("?"))
     }
 }
 

@@ -1,7 +1,0 @@
--- Past the last there is the empty name.
-use Rattle.std.proofs.Common.{rules}
-use Rattle.std.proofs.lemmas.List.{get_or_past}
-use Rattle.play.proofs.types.Names.name.Goals as goal
-
-pub returns-in-None : goal.returns-in-None
-returns-in-None c = search (rules, get_or_past)
