@@ -3,7 +3,7 @@ use Rattle.std.proofs.Common.{◌≡◌, ℕ, true, List, map, length, get_or, s
 use lib.ListN.{get_or-map}
 use Rattle.std.proofs.lemmas.List.{map-set, length-map, get_or_default}
 use Rattle.std.specs.Option.{option_map}
-use Rattle.lists.proofs.Firsts.{first_map, any_map}
+use Rattle.store.proofs.Firsts.{first_map, any_map}
 use Rattle.store.specs.Slots.{Empty, tag_of}
 use Rattle.array_store.specs.declared.types.Short.{Short}
 use Rattle.array_store.specs.declared.types.Stored.{Stored}

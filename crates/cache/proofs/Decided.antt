@@ -3,7 +3,7 @@ use Rattle.std.proofs.Common.{◌≡◌, ℕ, Bool, true, false, cond, not, ◌&
 use Rattle.store.specs.declared.types.Row.{Row}
 use Rattle.std.specs.List.{position, list_any, fold, range_with_len}
 use Rattle.store.specs.Slots.{Slot, Empty, is_for, holds, is_empty, row_of, tag_of}
-use Rattle.lists.proofs.Firsts.{found_passes, found_any}
+use Rattle.store.proofs.Firsts.{found_passes, found_any}
 use Rattle.cache.specs.declared.types.Exchange.{Exchange}
 use Rattle.cache.specs.declared.types.Words.{Words}
 use Rattle.cache.specs.declared.types.Looked.{Looked}

@@ -2,7 +2,7 @@
 use Rattle.std.proofs.Common.{◌≡◌, ℕ, zero, suc, ◌+◌, ◌<◌, ◌≤◌, Bool, true, false, cond, ◌&&◌, ltb, List, length, get_or, Some, None, Option, sym, refl, ap, ◌∙◌, arith}
 use Rattle.std.specs.List.{position, fold, range_with_len}
 use Rattle.store.specs.Slots.{Empty, holds, is_for, is_empty}
-use Rattle.lists.proofs.Firsts.{found_passes}
+use Rattle.store.proofs.Firsts.{found_passes}
 use Rattle.cache.specs.declared.types.Exchange.{Exchange}
 use Rattle.cache.specs.declared.types.Words.{Words}
 use Rattle.cache.specs.Rules.{State}

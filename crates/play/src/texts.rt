@@ -2,7 +2,7 @@
 ghost use Rattle.std.specs.Prelude.{Some};
 ghost use Rattle.play.specs.Texts.{error_text, breach_text};
 
-use crate::types::{ScriptError, Breach};
+use crate::types::{Breach, ScriptError};
 use std::error::Error;
 use std::fmt;
 

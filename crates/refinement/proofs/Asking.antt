@@ -4,7 +4,7 @@ use Rattle.std.proofs.lemmas.Bool.{lt-ltb}
 use Rattle.std.proofs.lemmas.Bool.Decides.{nat_tests}
 use Rattle.std.specs.List.{position}
 use Rattle.store.specs.Slots.{Response, Slot, Empty, Filled, Key, no_key, is_for, holds, with_row, row_of, tag_of, body_of}
-use Rattle.lists.proofs.Firsts.{first_passes, found_passes}
+use Rattle.store.proofs.Firsts.{first_passes, found_passes}
 use Rattle.cache.specs.declared.types.Exchange.{Exchange}
 use Rattle.cache.specs.declared.types.Looked.{Looked}
 use Rattle.cache.specs.declared.types.Looked.TheVariants.{Forwarded}

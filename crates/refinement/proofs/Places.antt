@@ -6,7 +6,7 @@ use Rattle.store.specs.declared.types.Row.{Row}
 use Rattle.std.proofs.lemmas.List.Folds.{list_any_at}
 use Rattle.std.specs.List.{position_or_len, position, list_any}
 use Rattle.store.specs.Slots.{Response, Slot, Empty, Filled, same_bool, is_for, of_path, is_tagged, otherwise, holds, without, with_row, row_of, tag_of, is_asked, is_empty}
-use Rattle.lists.proofs.Firsts.{first_here, first_later, found_passes}
+use Rattle.store.proofs.Firsts.{first_here, first_later, found_passes}
 use Rattle.promise.proofs.Lists.{bad, get_set}
 use Rattle.refinement.proofs.Numbered.{bytes_same}
 use Rattle.cache.specs.declared.types.Exchange.{Exchange}

@@ -4,7 +4,7 @@ use Rattle.std.proofs.lemmas.Iterator.{first_from_Range}
 use Rattle.store.specs.Slots.{Empty, slot_at}
 use Rattle.cache.specs.Rules.{state_of}
 use Rattle.cache.specs.Answers.{is_spent}
-use Rattle.lists.proofs.Firsts.{found_is}
+use Rattle.store.proofs.Firsts.{found_is}
 use Rattle.cache.proofs.types.Cache.find_spent.Goals as goal
 
 pub returns : goal.returns

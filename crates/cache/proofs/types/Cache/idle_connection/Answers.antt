@@ -1,6 +1,6 @@
 -- The first that is idle is one of the eight.
 use Rattle.std.proofs.Common.{sym, ◌∙◌, rules}
-use Rattle.lists.proofs.Firsts.{found_at, found_past}
+use Rattle.store.proofs.Firsts.{found_at, found_past}
 use Rattle.cache.specs.Rules.{is_idle}
 use Rattle.cache.proofs.types.Cache.idle_connection.Goals as goal
 

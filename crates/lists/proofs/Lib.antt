@@ -1,2 +1,0 @@
--- Laws of the definitions over lists.
-pub mod Firsts

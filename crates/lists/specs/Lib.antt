@@ -1,2 +1,0 @@
--- Definitions over lists.
-pub mod Firsts

@@ -1,0 +1,2 @@
+-- Lemmas that every store and cache uses.
+pub mod Firsts
