@@ -20,20 +20,16 @@ impl Names {
     pub fn name(&self, number: usize) -> &[u8]
         ensures { result.now ≡ name_of self.now.items.keys number }
     {
-        match self.items.get_index(number) {
-            None => &[],
-            Some(name) => name.as_slice(),
-        }
+        self.items
+            .get_index(number)
+            .map_or(&[], |name| name.as_slice())
     }
 
     /// The same, and the empty name for no number.
     pub fn name_if_some(&self, number: Option<usize>) -> &[u8]
         ensures { result.now ≡ name_if_some self.now.items.keys number }
     {
-        match number {
-            None => &[],
-            Some(number) => self.name(number),
-        }
+        number.map_or(&[], |number| self.name(number))
     }
 
     /// The number of a name, if it has one.
