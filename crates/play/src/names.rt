@@ -1,6 +1,6 @@
 // The names of a play, by number.
 ghost use Rattle.std.specs.Prelude.{◌≡◌, []};
-ghost use Rattle.play.specs.Tables.{name_of, name_if_some, number_of_name, Interned, InternedIfSome};
+ghost use Rattle.play.specs.Tables.{name_at, name_of, word_number, number_of_name, InternedWord, Interned};
 
 use crate::types::{MOST_NAMES, NAME_BYTES, Names, ScriptError};
 use indexmap::IndexSet;
@@ -17,8 +17,8 @@ impl Names {
     }
 
     /// The name with a number; empty past the last.
-    pub fn name(&self, number: usize) -> &[u8]
-        ensures { result.now ≡ name_of self.now.items.keys number }
+    pub fn name_at(&self, number: usize) -> &[u8]
+        ensures { result.now ≡ name_at self.now.items.keys number }
     {
         self.items
             .get_index(number)
@@ -26,27 +26,38 @@ impl Names {
     }
 
     /// The same, and the empty name for no number.
-    pub fn name_if_some(&self, number: Option<usize>) -> &[u8]
-        ensures { result.now ≡ name_if_some self.now.items.keys number }
+    pub fn name(&self, number: Option<usize>) -> &[u8]
+        ensures { result.now ≡ name_of self.now.items.keys number }
     {
-        number.map_or(&[], |number| self.name(number))
+        number.map_or(&[], |number| self.name_at(number))
     }
 
-    /// The number of a name, if it has one.
-    pub fn number(&self, name: &[u8]) -> Option<usize>
-        ensures { result ≡ number_of_name self.now.items.keys name.now }
+    /// The number of a name, if it is there.
+    pub fn word_number(&self, name: &[u8]) -> Option<usize>
+        ensures { result ≡ word_number self.now.items.keys name.now }
     {
         self.items.get_index_of(name)
     }
 
+    /// The same, and no number for the empty name, which is always there.
+    pub fn number(&self, name: &[u8]) -> Option<Option<usize>>
+        ensures { result ≡ number_of_name self.now.items.keys name.now }
+    {
+        if name.is_empty() {
+            Some(None)
+        } else {
+            self.word_number(name).map(Some)
+        }
+    }
+
     /// The number of a name, which it is given if it has none.
-    pub fn intern(&mut self, name: &[u8]) -> Result<usize, ScriptError>
-        ensures { Interned self.old.items.keys self.new.items.keys name.now result }
+    pub fn intern_word(&mut self, name: &[u8]) -> Result<usize, ScriptError>
+        ensures { InternedWord self.old.items.keys self.new.items.keys name.now result }
     {
         if name.len() > NAME_BYTES {
             return Err(ScriptError::LongName);
         }
-        if let Some(number) = self.number(name) {
+        if let Some(number) = self.word_number(name) {
             return Ok(number);
         }
         if self.items.len() >= MOST_NAMES {
@@ -58,12 +69,12 @@ impl Names {
     }
 
     /// The same, and no number for the empty name.
-    pub fn intern_if_some(&mut self, name: &[u8]) -> Result<Option<usize>, ScriptError>
-        ensures { InternedIfSome self.old.items.keys self.new.items.keys name.now result }
+    pub fn intern(&mut self, name: &[u8]) -> Result<Option<usize>, ScriptError>
+        ensures { Interned self.old.items.keys self.new.items.keys name.now result }
     {
         if name.is_empty() {
             return Ok(None);
         }
-        Ok(Some(self.intern(name)?))
+        Ok(Some(self.intern_word(name)?))
     }
 }

@@ -109,7 +109,7 @@ struct Name<'a> {
 
 impl fmt::Display for Name<'_> {
     fn fmt<W: fmt::Write>(&self, f: &mut fmt::Formatter<W>) -> fmt::Result {
-        let name = self.game.names.name_if_some(self.number);
+        let name = self.game.names.name(self.number);
         // A script's names are bytes that can be printed.
         f.pad(str::from_utf8(name).unwrap_or("?"))
     }
