@@ -6,7 +6,7 @@ ghost use Rattle.proxy.specs.Runs.{TakesEvents};
 ghost use Rattle.proxy.specs.Steps.{view, HaltWithin};
 
 use crate::state::Proxy;
-use crate::steps::{Step, Taken};
+use crate::steps::Taken;
 use frames::sink::Sink;
 
 impl Proxy<'_> {
@@ -19,11 +19,12 @@ impl Proxy<'_> {
         ensures events { TakesEvents bytes.now (view self.old) }
         ensures rest { HaltWithin result.halt (length bytes.now - result.len) }
     {
+        // The place is the answer, so it is counted: a slice that shrinks would have to be measured at the end.
         let mut at = 0;
         loop {
             match self.step(&bytes[at..], out) {
-                Step::Took(len) => at += len,
-                Step::Halted(halt) => return Taken { len: at, halt },
+                Ok(len) => at += len,
+                Err(halt) => return Taken { len: at, halt },
             }
         }
     }
