@@ -1,15 +1,14 @@
 -- In whatever pieces bytes come, the same events are read.
 use Rattle.std.proofs.Common.{◌≡◌, ℕ, zero, suc, ◌≤◌, List, [], ◌∷◌, ◌++◌, length, drop, Some, None, Ok, Err, sym, refl, ap, ◌∙◌, append_assoc, append-nil, arith}
 use Rattle.std.proofs.lemmas.List.{length-drop, drop-append-le}
-use Rattle.frames.specs.declared.faults.Fault.{Fault}
 use Rattle.frames.specs.Events.{Arrival, Reading, event_of}
 use Rattle.frames.specs.Streams.{End, Left, Stopped, Stream, after, next, events_on, events_of, feed_end, feed, in_pieces, joined}
 use Rattle.frames.specs.Laws.{PiecesAlike}
 use Rattle.frames.proofs.ByKind.{none_there}
 use Rattle.frames.proofs.Back.{event_within}
-use Rattle.frames.proofs.Settled.{settles}
+use Rattle.frames.proofs.Settled.{refused_stays, whole_stays}
 
-shorter : (k : ℕ) (bs : List ℕ) (e : Arrival) (n : ℕ) → event_of bs ≡ Ok (Some (e, n)) → length bs ≤ suc k → length (drop n bs) ≤ k
+pub shorter : (k : ℕ) (bs : List ℕ) (e : Arrival) (n : ℕ) → event_of bs ≡ Ok (Some (e, n)) → length bs ≤ suc k → length (drop n bs) ≤ k
 shorter k bs e n q h = let w = event_within bs e n q in rw (length-drop n bs) (omega arith)
 
 -- more steps than bytes read no more
@@ -39,12 +38,6 @@ feed_after : (e : Arrival) (es : List Arrival) (end : End) (p : List ℕ) → af
 feed_after e es (Left rest) p = refl
 feed_after e es (Stopped f) p = refl
 
-is_more : (r : Reading) (f : Fault) → r ≡ Err f → r ≡ Ok None → ⊥
-is_more r f p q = cc
-
-is_not : (r : Reading) (e : Arrival) (n : ℕ) → r ≡ Ok (Some (e, n)) → r ≡ Ok None → ⊥
-is_not r e n p q = cc
-
 onward : (k : ℕ) (a b : List ℕ) → length a ≤ k → events_of (a ++ b) ≡ feed (events_on k a) b
 unfolding events_on
 onward zero a b h = refl
@@ -52,11 +45,11 @@ onward (suc k) a b h = go (event_of a) refl (λ n. onward k (drop n a) b)
   where
     go : (r : Reading) → event_of a ≡ r → ((n : ℕ) → length (drop n a) ≤ k → events_of (drop n a ++ b) ≡ feed (events_on k (drop n a)) b) → events_of (a ++ b) ≡ feed (next (events_on k) a r) b
     go (Ok None) q ih = refl
-    go (Err f) q ih = unrolled (a ++ b) ∙ ap (next events_of (a ++ b)) (settles a b (is_more (event_of a) f q) ∙ q)
+    go (Err f) q ih = unrolled (a ++ b) ∙ ap (next events_of (a ++ b)) (refused_stays a b f q)
     go (Ok (Some (e, n))) q ih =
         let w = event_within a e n q in
         unrolled (a ++ b)
-        ∙ ap (next events_of (a ++ b)) (settles a b (is_not (event_of a) e n q) ∙ q)
+        ∙ ap (next events_of (a ++ b)) (whole_stays a b (e, n) q)
         ∙ ap (λ (z : List ℕ). after e (events_of z)) (drop-append-le n a b w.1)
         ∙ ap (after e) (ih n (shorter k a e n q h))
         ∙ feed_after e (events_on k (drop n a)).events (events_on k (drop n a)).end b

@@ -1,8 +1,9 @@
 -- A verdict stays, whatever bytes follow.
-use Rattle.std.proofs.Common.{◌≡◌, ℕ, ◌+◌, ◌<◌, ◌≤◌, true, leb, List, ◌++◌, length, get_or, take, drop, None, Ok, sym, refl, ap, ◌∙◌, ⊎_elim, arith}
+use Rattle.std.proofs.Common.{◌≡◌, ℕ, ◌+◌, ◌<◌, ◌≤◌, true, leb, List, ◌++◌, length, get_or, take, drop, Some, None, Ok, Err, sym, refl, ap, ◌∙◌, ⊎_elim, arith}
 use Rattle.std.proofs.lemmas.List.{length-append, length-drop, get_or_append_left, take-append-le, drop-append-le}
 use Rattle.std.proofs.lemmas.Bool.{cases_lt, le-leb}
-use Rattle.frames.specs.Events.{number_at, client_of, origin_of, broken_of, ended_of, by_kind, event_of}
+use Rattle.frames.specs.declared.faults.Fault.{Fault}
+use Rattle.frames.specs.Events.{Arrival, number_at, client_of, origin_of, broken_of, ended_of, by_kind, event_of}
 use Rattle.frames.specs.Laws.{Settles}
 use Rattle.frames.proofs.ByKind.{Kind, client, origin, broken, tick, ended, other, kinds, none_there, some_there, bad_kind, client_short, client_more, client_whole, origin_short, origin_bad, origin_early, origin_more, origin_whole, broken_short, ended_short, ended_whole}
 
@@ -105,3 +106,10 @@ module _ (bs more : List ℕ) where
 
 pub settles : Settles
 settles bs more m = event_settles bs more m
+
+-- what was refused stays so, and what was read
+pub refused_stays : (bs more : List ℕ) (f : Fault) → event_of bs ≡ Err f → event_of (bs ++ more) ≡ Err f
+refused_stays bs more f q = let known : event_of bs ≡ Ok None → ⊥ = λ m. cc in settles bs more known ∙ q
+
+pub whole_stays : (bs more : List ℕ) (x : Arrival × ℕ) → event_of bs ≡ Ok (Some x) → event_of (bs ++ more) ≡ Ok (Some x)
+whole_stays bs more x q = let known : event_of bs ≡ Ok None → ⊥ = λ m. cc in settles bs more known ∙ q

@@ -19,16 +19,13 @@ out_append (f ∷ fs) gs =
 took_so : (m n : ℕ) → ◌≡◌ {A = Step} (Ok m) (Ok n) → m ≡ n
 took_so m n q = cc
 
-halted_not : (h : Halt) (n : ℕ) → ◌≡◌ {A = Step} (Err h) (Ok n) → ⊥
-halted_not h n q = cc
-
 within_on : (bs : List ℕ) (s : State) (n : ℕ) (r : Reading) → event_of bs ≡ r → (step_on r s).step ≡ Ok n → (0 < n) × (n ≤ length bs)
-within_on bs s n (Ok None) e q = absurd (halted_not halt.More n q)
-within_on bs s n (Err f) e q = absurd (halted_not (halt.Refused f) n q)
+within_on bs s n (Ok None) e q = cc
+within_on bs s n (Err f) e q = cc
 within_on bs s n (Ok (Some (v, m))) e q = go (exhausted v s) q
   where
     go : (b : Bool) → ◌≡◌ {A = Step} (cond b (Err halt.ClockExhausted) (Ok m)) (Ok n) → (0 < n) × (n ≤ length bs)
-    go true p = absurd (halted_not halt.ClockExhausted n p)
+    go true p = cc
     go false p = let w = event_within bs v m e in let same = took_so m n p in (omega arith, omega arith)
 
 pub step_within : (bs : List ℕ) (s : State) (n : ℕ) → (step_of bs s).step ≡ Ok n → (0 < n) × (n ≤ length bs)
@@ -40,7 +37,7 @@ shorter k bs s n q h = let w = step_within bs s n q in rw (length-drop n bs) (om
 none_left : (bs : List ℕ) (s : State) → length bs < 1 → halted halt.More s ≡ step_of bs s
 none_left bs s h = step_by bs s (Ok None) (sym (none_there bs h))
 
-abbrev next_of : (List ℕ → State → Batch) → List ℕ → Outcome → Batch
+abbrev pub next_of : (List ℕ → State → Batch) → List ℕ → Outcome → Batch
 next_of on bs o = next on bs o.turn o.step
 
 -- more steps than bytes take no more

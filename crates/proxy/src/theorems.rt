@@ -6,17 +6,14 @@ ghost use Rattle.proxy.specs.Runs.{AnsweredOnce, Unasked, OnlyClients};
 pub fn answered_once()
     ensures once { AnsweredOnce }
     ensures unasked { Unasked }
-{
-}
+{}
 
 /// Nothing is put on a connection.
 pub fn only_clients()
     ensures { OnlyClients }
-{
-}
+{}
 
 /// In whatever pieces the input comes, the same is written.
 pub fn pieces_alike()
     ensures { PiecesAlike }
-{
-}
+{}
