@@ -32,6 +32,7 @@ pub fn close_client<S: Sink>(client: u16, out: &mut S)
     out.put(&[FrameKind::CloseClient as u8, high, low]);
 }
 
+// Opened or closed: each is one line, so a function over the kind would be no plainer.
 /// A connection to the origin is to be opened.
 pub fn open_connection<S: Sink>(connection: u8, out: &mut S)
     ensures { S.Sink.took out.old (frame_bytes (Open connection)) out.new }

@@ -28,6 +28,7 @@ impl Model for Pending {
 }
 
 impl Pending {
+    /// Nothing was read yet.
     pub fn new(heap: Global) -> Result<Pending, AllocError>
         ensures { IfOk result (λ pending. pending ≡ []) }
     {
@@ -37,6 +38,7 @@ impl Pending {
         })
     }
 
+    /// All of the bytes.
     pub fn bytes(&self) -> &[u8]
         ensures { result.now ≡ self.now }
     {

@@ -9,6 +9,7 @@ use std::{fmt, io};
 pub struct End {
     /// How many bytes of the input were taken.
     pub at: u64,
+    /// Why the bytes behind them were not.
     pub halt: Halt,
 }
 
@@ -41,10 +42,13 @@ fn deciding(fault: Fault) -> u64 {
 }
 
 /// What went wrong around the proxy.
-#[derive(Drop)]
+#[derive(Debug, Drop)]
 pub enum Trouble {
+    /// Memory could not be taken.
     Memory,
+    /// Standard input could not be read.
     Reading(io::Error),
+    /// Standard output could not be written.
     Writing(io::Error),
 }
 
