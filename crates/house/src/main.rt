@@ -4,7 +4,7 @@
 ghost use Rattle.std.specs.Prelude.{◌≡◌, ◌<◌, drop, length, IfOk};
 ghost use Rattle.frames.specs.Views.{largest};
 ghost use Rattle.proxy.specs.Batches.{take_all};
-ghost use Rattle.proxy.specs.Steps.{view, HaltWithin};
+ghost use Rattle.proxy.specs.Steps.{HaltWithin};
 
 mod pending;
 mod report;
@@ -77,8 +77,8 @@ fn take_piece(
     pending: &mut Pending,
     out: &mut Growing,
 ) -> Result<Taken, Trouble>
-    ensures state { view proxy.new ≡ (take_all pending.old (view proxy.old)).turn.after }
-    ensures value { IfOk result (λ taken. taken ≡ (take_all pending.old (view proxy.old)).taken) }
+    ensures state { proxy.new ≡ (take_all pending.old proxy.old).turn.after }
+    ensures value { IfOk result (λ taken. taken ≡ (take_all pending.old proxy.old).taken) }
     ensures room { IfOk result (λ taken. HaltWithin taken.halt (length pending.new)) }
     ensures rest { IfOk result (λ taken. pending.new ≡ drop taken.len pending.old) }
 {

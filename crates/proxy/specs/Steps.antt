@@ -1,7 +1,6 @@
 -- What the proxy does at an event.
 --
---   State        — the clock, and for each client's number a mark, whether the client is closed
---   view         — the state that a proxy of the code is in
+--   State        — what a proxy of the code stands for: the clock, and for each client's number a mark, whether the client is closed
 --   start        — the first state, with so many places for clients
 --   may_answer   — a client with this mark may be answered
 --   is_open      — there is a place for the client's mark, and it is not closed; a client with no place is never answered
@@ -25,7 +24,6 @@ use Rattle.frames.specs.Frames.{Frame, ToClient, CloseClient}
 use Rattle.frames.specs.Views.{largest}
 use Rattle.proxy.specs.declared.marks.Mark.{Mark}
 use Rattle.proxy.specs.declared.marks.Mark.TheVariants.{Open, Closed}
-use Rattle.proxy.specs.declared.state.Proxy.{Proxy}
 use Rattle.proxy.specs.declared.steps.Halt.{Halt}
 use Rattle.proxy.specs.declared.steps.Halt.TheVariants as halt
 use Rattle.proxy.specs.Responses.{unavailable}
@@ -33,9 +31,6 @@ use Rattle.proxy.specs.Responses.{unavailable}
 pub record State : Type 0 where
   pub tick : ℕ
   pub marks : List Mark
-
-abbrev pub view : Proxy → State
-view p = record { tick = p.tick; marks = p.marks.now }
 
 abbrev pub start : ℕ → State
 start n = record { tick = 0; marks = replicate n Open }

@@ -4,7 +4,7 @@ ghost use Rattle.frames.specs.Events.{Ticked};
 ghost use Rattle.frames.specs.Frames.{ToClient, frame_bytes, out_bytes};
 ghost use Rattle.frames.specs.Views.{seen};
 ghost use Rattle.proxy.specs.Responses.{unavailable};
-ghost use Rattle.proxy.specs.Steps.{view, start, is_open, refusal, refuse, from_client, counted, handled, step_of, StepWithin};
+ghost use Rattle.proxy.specs.Steps.{start, is_open, refusal, refuse, from_client, counted, handled, step_of, StepWithin};
 
 use crate::marks::{Mark, clear_marks, is_open, set_mark};
 use crate::refusal::service_unavailable;
@@ -21,7 +21,7 @@ pub const LAST_TICK: u64 = u64::MAX;
 impl<'a> Proxy<'a> {
     /// A proxy at tick 0 that has closed no client, with places for as many clients as there are marks.
     pub fn new(marks: &'a mut [Mark]) -> Proxy<'a>
-        ensures { view result ≡ start (length marks.old) }
+        ensures { result ≡ start (length marks.old) }
     {
         clear_marks(marks);
         Proxy { tick: 0, marks }
@@ -29,9 +29,9 @@ impl<'a> Proxy<'a> {
 
     /// Takes one event from the front of the bytes, writes the frames that it brings, and says how many bytes it has.
     pub fn step<S: Sink>(&mut self, bytes: &[u8], out: &mut S) -> Result<usize, Halt>
-        ensures state { view self.new ≡ (step_of bytes.now (view self.old)).turn.after }
-        ensures wrote { S.Sink.took out.old (out_bytes (step_of bytes.now (view self.old)).turn.frames) out.new }
-        ensures value { result ≡ (step_of bytes.now (view self.old)).step }
+        ensures state { self.new ≡ (step_of bytes.now self.old).turn.after }
+        ensures wrote { S.Sink.took out.old (out_bytes (step_of bytes.now self.old).turn.frames) out.new }
+        ensures value { result ≡ (step_of bytes.now self.old).step }
         ensures within { StepWithin result (length bytes.now) }
     {
         let (event, len) = read_event(bytes)?.ok_or(Halt::More)?;
@@ -40,22 +40,22 @@ impl<'a> Proxy<'a> {
     }
 
     fn may_answer(&self, client: u16) -> bool
-        ensures { result ≡ is_open self.now.marks.now client }
+        ensures { result ≡ is_open self.now.marks client }
     {
         is_open(self.marks, client)
     }
 
     fn refuse<S: Sink>(&mut self, client: u16, out: &mut S)
-        ensures state { view self.new ≡ (refuse client (view self.old)).after }
-        ensures wrote { S.Sink.took out.old (out_bytes (refuse client (view self.old)).frames) out.new }
+        ensures state { self.new ≡ (refuse client self.old).after }
+        ensures wrote { S.Sink.took out.old (out_bytes (refuse client self.old).frames) out.new }
     {
         set_mark(self.marks, client, Mark::Closed);
         put_refusal(client, out);
     }
 
     fn client_sent<S: Sink>(&mut self, client: u16, bytes: &[u8], out: &mut S)
-        ensures state { view self.new ≡ (from_client client bytes.now (view self.old)).after }
-        ensures wrote { S.Sink.took out.old (out_bytes (from_client client bytes.now (view self.old)).frames) out.new }
+        ensures state { self.new ≡ (from_client client bytes.now self.old).after }
+        ensures wrote { S.Sink.took out.old (out_bytes (from_client client bytes.now self.old).frames) out.new }
     {
         if !bytes.is_empty() && self.may_answer(client) {
             self.refuse(client, out);
@@ -63,9 +63,9 @@ impl<'a> Proxy<'a> {
     }
 
     fn tick_on(&mut self) -> Result<(), Halt>
-        ensures value { result ≡ counted Ticked (view self.old) }
-        ensures state { view self.new ≡ (handled Ticked (view self.old)).after }
-        ensures quiet { (handled Ticked (view self.old)).frames ≡ [] }
+        ensures value { result ≡ counted Ticked self.old }
+        ensures state { self.new ≡ (handled Ticked self.old).after }
+        ensures quiet { (handled Ticked self.old).frames ≡ [] }
     {
         if self.tick >= LAST_TICK {
             return Err(Halt::ClockExhausted);
@@ -76,9 +76,9 @@ impl<'a> Proxy<'a> {
 
     /// Takes an event; at a tick that can't be counted nothing changes.
     fn handle<S: Sink>(&mut self, event: Event<'_>, out: &mut S) -> Result<(), Halt>
-        ensures value { result ≡ counted (seen event.entry) (view self.old) }
-        ensures state { view self.new ≡ (handled (seen event.entry) (view self.old)).after }
-        ensures wrote { S.Sink.took out.old (out_bytes (handled (seen event.entry) (view self.old)).frames) out.new }
+        ensures value { result ≡ counted (seen event.entry) self.old }
+        ensures state { self.new ≡ (handled (seen event.entry) self.old).after }
+        ensures wrote { S.Sink.took out.old (out_bytes (handled (seen event.entry) self.old).frames) out.new }
     {
         match event {
             Event::Client(client, bytes) => self.client_sent(client, bytes, out),
