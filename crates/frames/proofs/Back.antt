@@ -11,16 +11,12 @@ use Rattle.frames.proofs.ByKind.{Kind, client, origin, broken, tick, ended, othe
 pub split : (n : ℕ) → number (high n) (low n) ≡ n
 split n = omega arith
 
--- a body, behind a head of h bytes, of which the last two are its length
-pub body_back : (bs rest : List ℕ) (n : ℕ) → n ≡ length bs → take n (bs ++ rest) ≡ bs
-body_back bs rest n e = take_at bs rest n (sym e)
-
 client_back : (c : ℕ) (bs rest : List ℕ) → event_of (encode (FromClient c bs) ++ rest) ≡ Ok (Some (FromClient c bs, length (encode (FromClient c bs))))
 client_back c bs rest =
     let all : List ℕ = encode (FromClient c bs) ++ rest in
     let who = split c in
     let size = split (length bs) in
-    let body = body_back bs rest (number (high (length bs)) (low (length bs))) size in
+    let body = take_at bs rest (number (high (length bs)) (low (length bs))) (sym size) in
     let long : 5 + length bs ≡ length (encode (FromClient c bs)) = omega arith in
     let fits : 5 + number_at all 3 ≤ length all = omega (arith, size, length-append bs rest) in
     some_there all (omega arith) ∙ ap Ok (client_whole all fits) ∙ (rw (body, who, size, long))
@@ -29,7 +25,7 @@ origin_back : (i : ℕ) (bs rest : List ℕ) → i < 8 → event_of (encode (Fro
 origin_back i bs rest near =
     let all : List ℕ = encode (FromOrigin i bs) ++ rest in
     let size = split (length bs) in
-    let body = body_back bs rest (number (high (length bs)) (low (length bs))) size in
+    let body = take_at bs rest (number (high (length bs)) (low (length bs))) (sym size) in
     let long : 4 + length bs ≡ length (encode (FromOrigin i bs)) = omega arith in
     let fits : 4 + number_at all 2 ≤ length all = omega (arith, size, length-append bs rest) in
     some_there all (omega arith) ∙ origin_whole all near fits ∙ (rw (body, size, long))

@@ -1,6 +1,6 @@
 // Why a frame is refused, and why one is not written.
 ghost use Rattle.std.specs.Prelude.{Some, codes};
-ghost use Rattle.frames.specs.Faults.{fault_text, unwritten_text, refusal_number};
+ghost use Rattle.frames.specs.Faults.{fault_text, unwritten_text};
 
 use std::error::Error;
 use std::fmt;

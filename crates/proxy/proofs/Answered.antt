@@ -1,21 +1,15 @@
 -- Each client is answered once from one end to the next.
-use Rattle.std.proofs.Common.{◌≡◌, ℕ, ◌<◌, Bool, true, false, cond, not, ◌&&◌, ◌||◌, eqb, ltb, ◌≢◌, List, [], ◌∷◌, ◌++◌, length, get_or, refl, ap, ◌∙◌, subst, ⊎_elim, arith, length-set}
+use Rattle.std.proofs.Common.{◌≡◌, ℕ, ◌<◌, Bool, true, false, cond, not, ◌&&◌, ◌||◌, eqb, ltb, ◌≢◌, List, [], ◌∷◌, ◌++◌, length, get_or, refl, ap, ◌∙◌, subst, ⊎_elim, length-set}
 use lib.ListN.{length-replicate}
 use Rattle.std.proofs.lemmas.List.{get_or-set_same, get_or-set_other, get_or-replicate}
-use Rattle.std.proofs.lemmas.Bool.{cases_eq}
-use Rattle.std.proofs.lemmas.Bool.Decides.{nat_tests}
+use Rattle.std.proofs.lemmas.Bool.{cases_eq, eq-eqb, ne_eqb}
+use Rattle.std.proofs.Math.Bool.{and-true}
 use Rattle.frames.specs.Events.{Arrival, FromClient, FromOrigin, Broke, Ticked, Gone}
 use Rattle.frames.specs.Frames.{Frame}
 use Rattle.proxy.specs.declared.marks.Mark.{Mark}
 use Rattle.proxy.specs.declared.marks.Mark.TheVariants.{Open, Closed}
 use Rattle.proxy.specs.Steps.{State, start, still, marked, refuse, refusal, may_answer, is_open, from_client, does}
 use Rattle.proxy.specs.Runs.{play, sends, ends, sent, ended, spoken_on, is_for, about, AnsweredOnce, Unasked, AllRefusing, OnlyClients}
-
-same_number : (c : ℕ) → eqb c c ≡ true
-same_number c = grind (arith, nat_tests)
-
-other_number : (c d : ℕ) → (c ≡ d → ⊥) → eqb c d ≡ false
-other_number c d ne = grind (arith, nat_tests)
 
 about-append : (c : ℕ) (fs gs : List Frame) → about c (fs ++ gs) ≡ about c fs ++ about c gs
 about-append c [] gs = refl
@@ -26,7 +20,7 @@ about-append c (f ∷ fs) gs = go (is_for c f) (about-append c fs gs)
     go false ih = ih
 
 about_own : (c : ℕ) → about c (refusal c) ≡ refusal c
-about_own c = rw (same_number c)
+about_own c = rw (eq-eqb c c refl)
 
 about_other : (c d : ℕ) → eqb c d ≡ false → about c (refusal d) ≡ []
 about_other c d e = rw e
@@ -54,7 +48,7 @@ abbrev spoken_at : Bool → ℕ → Arrival → Bool
 spoken_at b c e = cond (ends c e) false (sends c e || b)
 
 own_mark : (c : ℕ) (b : Bool) (bs : List ℕ) (s : State) → Known c b s → Known c (spoken_at b c (FromClient c bs)) (from_client c bs s).after
-own_mark c b bs s m = rw (same_number c, open_unless c b s m) (go b (ltb 0 (length bs)) m)
+own_mark c b bs s m = rw (eq-eqb c c refl, open_unless c b s m) (go b (ltb 0 (length bs)) m)
   where
     go : (b l : Bool) → Known c b s → Known c (l || b) (cond (l && not b) (refuse c s) (still s)).after
     go true true m = m
@@ -63,14 +57,14 @@ own_mark c b bs s m = rw (same_number c, open_unless c b s m) (go b (ltb 0 (leng
     go false false m = m
 
 other_mark : (c d : ℕ) (b : Bool) (bs : List ℕ) (s : State) → (c ≡ d → ⊥) → Known c b s → Known c (spoken_at b c (FromClient d bs)) (from_client d bs s).after
-other_mark c d b bs s ne m = rw (other_number c d ne) (go (ltb 0 (length bs) && is_open s.marks d))
+other_mark c d b bs s ne m = rw (ne_eqb c d ne) (go (ltb 0 (length bs) && is_open s.marks d))
   where
     go : (t : Bool) → Known c b (cond t (refuse d s) (still s)).after
     go true = marked_other c d Closed b s ne m
     go false = m
 
 own_frames : (c : ℕ) (b : Bool) (bs : List ℕ) (s : State) → Known c b s → about c (from_client c bs s).frames ≡ cond (sends c (FromClient c bs) && not b) (refusal c) []
-own_frames c b bs s m = rw (open_unless c b s m, same_number c) (go (ltb 0 (length bs) && not b))
+own_frames c b bs s m = rw (open_unless c b s m, eq-eqb c c refl) (go (ltb 0 (length bs) && not b))
   where
     go : (t : Bool) → about c (cond t (refuse c s) (still s)).frames ≡ cond t (refusal c) []
     go true = about_own c
@@ -92,15 +86,15 @@ does_mark c b Ticked s m = record { place = m.place; mark = m.mark }
 does_mark c b (Gone d) s m = ⊎_elim own other (cases_eq c d)
   where
     own : c ≡ d → Known c (spoken_at b c (Gone d)) (marked d Open s)
-    own e = subst (λ (z : ℕ). Known c (spoken_at b c (Gone z)) (marked z Open s)) e (rw (same_number c) (marked_own c Open b false s m refl))
+    own e = subst (λ (z : ℕ). Known c (spoken_at b c (Gone z)) (marked z Open s)) e (rw (eq-eqb c c refl) (marked_own c Open b false s m refl))
 
     other : (c ≡ d → ⊥) → Known c (spoken_at b c (Gone d)) (marked d Open s)
-    other ne = rw (other_number c d ne) (marked_other c d Open b s ne m)
+    other ne = rw (ne_eqb c d ne) (marked_other c d Open b s ne m)
 
 does_frames : (c : ℕ) (b : Bool) (e : Arrival) (s : State) → Known c b s → about c (does e s).frames ≡ cond (sends c e && not b) (refusal c) []
 does_frames c b (FromClient d bs) s m =
     ⊎_elim (λ e. subst (λ (z : ℕ). about c (from_client z bs s).frames ≡ cond (sends c (FromClient z bs) && not b) (refusal c) []) e (own_frames c b bs s m))
-    (λ ne. let q = other_number c d ne in rw q (other_frames c d bs s q))
+    (λ ne. let q = ne_eqb c d ne in rw q (other_frames c d bs s q))
     (cases_eq c d)
 does_frames c b (FromOrigin i bs) s m = refl
 does_frames c b (Broke i) s m = refl
@@ -140,14 +134,10 @@ play_frames c b (e ∷ es) s m q =
 at_start : (places c : ℕ) → c < places → Known c false (start places)
 at_start places c h = record { place = rw (length-replicate {A = Mark} places Open) h; mark = get_or-replicate places c Open Closed h }
 
-and_true : (x : Bool) (c : ℕ) → cond (x && true) (refusal c) [] ≡ cond x (refusal c) []
-and_true true c = refl
-and_true false c = refl
-
 pub answered_once : AnsweredOnce
 answered_once places c h past es fresh stays =
     let m : Known c false (play past (start places)).after = subst (λ (z : Bool). Known c z (play past (start places)).after) fresh (play_mark c false past (start places) (at_start places c h)) in
-    play_frames c false es (play past (start places)).after m stays ∙ and_true (sent c es) c
+    play_frames c false es (play past (start places)).after m stays ∙ ap (λ (z : Bool). cond z (refusal c) []) (and-true (sent c es))
 
 quiet : (c : ℕ) (e : Arrival) (s : State) → sends c e ≡ false → about c (does e s).frames ≡ []
 quiet c (FromClient d bs) s q = go (eqb c d) refl (ltb 0 (length bs)) refl

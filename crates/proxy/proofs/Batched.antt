@@ -16,9 +16,6 @@ out_append [] gs = refl
 out_append (f ∷ fs) gs =
     ap (λ (z : List ℕ). frame_bytes f ++ z) (out_append fs gs) ∙ sym (append_assoc (frame_bytes f) (out_bytes fs) (out_bytes gs))
 
-took_so : (m n : ℕ) → ◌≡◌ {A = Step} (Ok m) (Ok n) → m ≡ n
-took_so m n q = cc
-
 within_on : (bs : List ℕ) (s : State) (n : ℕ) (r : Reading) → event_of bs ≡ r → (step_on r s).step ≡ Ok n → (0 < n) × (n ≤ length bs)
 within_on bs s n (Ok None) e q = cc
 within_on bs s n (Err f) e q = cc
@@ -26,7 +23,7 @@ within_on bs s n (Ok (Some (v, m))) e q = go (exhausted v s) q
   where
     go : (b : Bool) → ◌≡◌ {A = Step} (cond b (Err halt.ClockExhausted) (Ok m)) (Ok n) → (0 < n) × (n ≤ length bs)
     go true p = cc
-    go false p = let w = event_within bs v m e in let same = took_so m n p in (omega arith, omega arith)
+    go false p = let w = event_within bs v m e in let same : m ≡ n = cc in (omega arith, omega arith)
 
 pub step_within : (bs : List ℕ) (s : State) (n : ℕ) → (step_of bs s).step ≡ Ok n → (0 < n) × (n ≤ length bs)
 step_within bs s n q = within_on bs s n (event_of bs) refl q
