@@ -1,37 +1,31 @@
 -- An event's bytes read back as that event, and no other bytes do.
-use Rattle.std.proofs.Common.{◌≡◌, ℕ, ◌+◌, ◌<◌, ◌≤◌, List, [], ◌∷◌, ◌++◌, length, get_or, take, drop, sym, refl, ◌∙◌, subst, ⊎_elim, arith}
+use Rattle.std.proofs.Common.{◌≡◌, ℕ, ◌+◌, ◌<◌, ◌≤◌, List, [], ◌∷◌, ◌++◌, length, get_or, take, drop, Some, None, Ok, Err, sym, refl, ap, ◌∙◌, subst, ⊎_elim, arith}
 use lib.Seq.{take-append-add}
 use Rattle.std.proofs.lemmas.List.{length-append, length-take-le, take_at}
 use Rattle.std.proofs.lemmas.Bool.{cases_lt}
 use Rattle.frames.specs.declared.faults.Fault.{Fault}
-use Rattle.frames.specs.declared.reading.Reading.{Reading}
-use Rattle.frames.specs.declared.reading.Reading.TheVariants.{More, Refused, Whole}
-use Rattle.frames.specs.Events.{Arrival, FromClient, FromOrigin, Broke, Ticked, Gone, Good, number, number_at, high, low, encode, client_of, origin_of, broken_of, ended_of, by_kind, event_of}
+use Rattle.frames.specs.Events.{Arrival, Reading, FromClient, FromOrigin, Broke, Ticked, Gone, Good, number, number_at, high, low, encode, client_of, origin_of, broken_of, ended_of, by_kind, event_of}
 use Rattle.frames.specs.Laws.{ReadsBack, OneEncoding, Bytes}
 use Rattle.frames.proofs.ByKind.{Kind, client, origin, broken, tick, ended, other, kinds, none_there, some_there, bad_kind, client_more, client_whole, origin_short, origin_bad, origin_early, origin_more, origin_whole, broken_short, broken_bad, broken_whole, ended_short, ended_whole}
 
 pub split : (n : ℕ) → number (high n) (low n) ≡ n
 split n = omega arith
 
--- a body, behind a head of h bytes, of which the last two are its length
-pub body_back : (bs rest : List ℕ) (n : ℕ) → n ≡ length bs → take n (bs ++ rest) ≡ bs
-body_back bs rest n e = take_at bs rest n (sym e)
-
-client_back : (c : ℕ) (bs rest : List ℕ) → event_of (encode (FromClient c bs) ++ rest) ≡ Whole (FromClient c bs) (length (encode (FromClient c bs)))
+client_back : (c : ℕ) (bs rest : List ℕ) → event_of (encode (FromClient c bs) ++ rest) ≡ Ok (Some (FromClient c bs, length (encode (FromClient c bs))))
 client_back c bs rest =
     let all : List ℕ = encode (FromClient c bs) ++ rest in
     let who = split c in
     let size = split (length bs) in
-    let body = body_back bs rest (number (high (length bs)) (low (length bs))) size in
+    let body = take_at bs rest (number (high (length bs)) (low (length bs))) (sym size) in
     let long : 5 + length bs ≡ length (encode (FromClient c bs)) = omega arith in
     let fits : 5 + number_at all 3 ≤ length all = omega (arith, size, length-append bs rest) in
-    some_there all (omega arith) ∙ client_whole all fits ∙ (rw (body, who, size, long))
+    some_there all (omega arith) ∙ ap Ok (client_whole all fits) ∙ (rw (body, who, size, long))
 
-origin_back : (i : ℕ) (bs rest : List ℕ) → i < 8 → event_of (encode (FromOrigin i bs) ++ rest) ≡ Whole (FromOrigin i bs) (length (encode (FromOrigin i bs)))
+origin_back : (i : ℕ) (bs rest : List ℕ) → i < 8 → event_of (encode (FromOrigin i bs) ++ rest) ≡ Ok (Some (FromOrigin i bs, length (encode (FromOrigin i bs))))
 origin_back i bs rest near =
     let all : List ℕ = encode (FromOrigin i bs) ++ rest in
     let size = split (length bs) in
-    let body = body_back bs rest (number (high (length bs)) (low (length bs))) size in
+    let body = take_at bs rest (number (high (length bs)) (low (length bs))) (sym size) in
     let long : 4 + length bs ≡ length (encode (FromOrigin i bs)) = omega arith in
     let fits : 4 + number_at all 2 ≤ length all = omega (arith, size, length-append bs rest) in
     some_there all (omega arith) ∙ origin_whole all near fits ∙ (rw (body, size, long))
@@ -43,7 +37,7 @@ reads_back (Broke i) good rest = some_there (3 ∷ i ∷ rest) (omega arith) ∙
 reads_back Ticked good rest = some_there (4 ∷ rest) (omega arith)
 reads_back (Gone c) good rest =
     let all : List ℕ = encode (Gone c) ++ rest in
-    some_there all (omega arith) ∙ ended_whole all (omega arith) ∙ (rw (split c))
+    some_there all (omega arith) ∙ ap Ok (ended_whole all (omega arith)) ∙ (rw (split c))
 
 high_of : (b c : ℕ) → c < 256 → high (number b c) ≡ b
 high_of b c h = omega arith
@@ -95,19 +89,23 @@ ended_one (a ∷ []) by kind h = absurd (omega arith)
 ended_one (a ∷ b ∷ []) by kind h = absurd (omega arith)
 ended_one (a ∷ b ∷ c ∷ rest) by kind h = (two_bytes b c (by 1) (by 2), rw (high_of b c (by 2), low_of b c (by 2), kind))
 
+read_so : (x y : Arrival × ℕ) → ◌≡◌ {A = Reading} (Ok (Some x)) (Ok (Some y)) → x ≡ y
+read_so x y q = cc
+
 -- what was read, by what is known to be read
 module _ (P : Arrival → ℕ → Type 0) (e : Arrival) (n : ℕ) where
-  whole_so : (r : Reading Arrival) (f : Arrival) (m : ℕ) → r ≡ Whole f m → r ≡ Whole e n → P f m → P e n
+  whole_so : (r : Reading) (f : Arrival) (m : ℕ) → r ≡ Ok (Some (f, m)) → r ≡ Ok (Some (e, n)) → P f m → P e n
   whole_so r f m p q x =
-      let same : f ≡ e = cc in
-      let size : m ≡ n = cc in
+      let both = read_so (f, m) (e, n) (sym p ∙ q) in
+      let same : f ≡ e = ap (λ (z : Arrival × ℕ). z.0) both in
+      let size : m ≡ n = ap (λ (z : Arrival × ℕ). z.1) both in
       subst (λ (z : Arrival). P z n) same (subst (λ (z : ℕ). P f z) size x)
 
-  more_not : (r : Reading Arrival) → r ≡ More → r ≡ Whole e n → P e n
-  more_not r p q = absurd (let z : ◌≡◌ {A = ℕ} 0 1 = cc in omega arith)
+  more_not : (r : Reading) → r ≡ Ok None → r ≡ Ok (Some (e, n)) → P e n
+  more_not r p q = cc
 
-  refused_not : (r : Reading Arrival) → (f : Fault) → r ≡ Refused f → r ≡ Whole e n → P e n
-  refused_not r f p q = absurd (let z : ◌≡◌ {A = ℕ} 0 1 = cc in omega arith)
+  refused_not : (r : Reading) → (f : Fault) → r ≡ Err f → r ≡ Ok (Some (e, n)) → P e n
+  refused_not r f p q = cc
 
 -- a property of what is read is shown for a whole frame of each kind
 pub record Each (bs : List ℕ) (P : Arrival → ℕ → Type 0) : Type 0 where
@@ -118,11 +116,11 @@ pub record Each (bs : List ℕ) (P : Arrival → ℕ → Type 0) : Type 0 where
   pub ended : get_or bs 0 0 ≡ 5 → 2 < length bs → P (Gone (number_at bs 1)) 3
 
 module _ (bs : List ℕ) (P : Arrival → ℕ → Type 0) (all : Each bs P) (e : Arrival) (n : ℕ) where
-  of_client_lem : get_or bs 0 0 ≡ 1 → client_of bs ≡ Whole e n → P e n
+  of_client_lem : get_or bs 0 0 ≡ 1 → ◌≡◌ {A = Reading} (Ok (client_of bs)) (Ok (Some (e, n))) → P e n
   of_client_lem kind q =
-      ⊎_elim (λ h. more_not P e n _ (client_more bs h) q) (λ h. whole_so P e n _ _ _ (client_whole bs h) q (all.client kind h)) (cases_lt (length bs) (5 + number_at bs 3))
+      ⊎_elim (λ h. more_not P e n _ (ap Ok (client_more bs h)) q) (λ h. whole_so P e n _ _ _ (ap Ok (client_whole bs h)) q (all.client kind h)) (cases_lt (length bs) (5 + number_at bs 3))
 
-  of_origin : get_or bs 0 0 ≡ 2 → origin_of bs ≡ Whole e n → P e n
+  of_origin : get_or bs 0 0 ≡ 2 → origin_of bs ≡ Ok (Some (e, n)) → P e n
   of_origin kind q =
       ⊎_elim (λ h. more_not P e n _ (origin_short bs h) q)
       (λ two. ⊎_elim (near two) (λ k. refused_not P e n _ _ (origin_bad bs two k) q) (cases_lt (get_or bs 1 0) 8))
@@ -134,17 +132,17 @@ module _ (bs : List ℕ) (P : Arrival → ℕ → Type 0) (all : Each bs P) (e :
           (λ four. ⊎_elim (λ h. more_not P e n _ (origin_more bs four k h) q) (λ h. whole_so P e n _ _ _ (origin_whole bs k h) q (all.origin kind k h)) (cases_lt (length bs) (4 + number_at bs 2)))
           (cases_lt (length bs) 4)
 
-  of_broken : get_or bs 0 0 ≡ 3 → broken_of bs ≡ Whole e n → P e n
+  of_broken : get_or bs 0 0 ≡ 3 → broken_of bs ≡ Ok (Some (e, n)) → P e n
   of_broken kind q =
       ⊎_elim (λ h. more_not P e n _ (broken_short bs h) q)
       (λ two. ⊎_elim (λ k. whole_so P e n _ _ _ (broken_whole bs two k) q (all.broken kind k two)) (λ k. refused_not P e n _ _ (broken_bad bs two k) q) (cases_lt (get_or bs 1 0) 8))
       (cases_lt (length bs) 2)
 
-  of_ended : get_or bs 0 0 ≡ 5 → ended_of bs ≡ Whole e n → P e n
+  of_ended : get_or bs 0 0 ≡ 5 → ◌≡◌ {A = Reading} (Ok (ended_of bs)) (Ok (Some (e, n))) → P e n
   of_ended kind q =
-      ⊎_elim (λ h. more_not P e n _ (ended_short bs h) q) (λ h. whole_so P e n _ _ _ (ended_whole bs h) q (all.ended kind h)) (cases_lt (length bs) 3)
+      ⊎_elim (λ h. more_not P e n _ (ap Ok (ended_short bs h)) q) (λ h. whole_so P e n _ _ _ (ap Ok (ended_whole bs h)) q (all.ended kind h)) (cases_lt (length bs) 3)
 
-  of_kind : (k : ℕ) → Kind k → get_or bs 0 0 ≡ k → 0 < length bs → by_kind k bs ≡ Whole e n → P e n
+  of_kind : (k : ℕ) → Kind k → get_or bs 0 0 ≡ k → 0 < length bs → by_kind k bs ≡ Ok (Some (e, n)) → P e n
   of_kind _ client kind h q = of_client_lem kind q
   of_kind _ origin kind h q = of_origin kind q
   of_kind _ broken kind h q = of_broken kind q
@@ -152,7 +150,7 @@ module _ (bs : List ℕ) (P : Arrival → ℕ → Type 0) (all : Each bs P) (e :
   of_kind _ ended kind h q = of_ended kind q
   of_kind _ (other k o) kind h q = refused_not P e n _ _ (bad_kind k bs o) q
 
-  pub of_event : event_of bs ≡ Whole e n → P e n
+  pub of_event : event_of bs ≡ Ok (Some (e, n)) → P e n
   of_event q =
       ⊎_elim (λ h. more_not P e n _ (none_there bs h) q)
       (λ h. of_kind (get_or bs 0 0) (kinds (get_or bs 0 0)) refl h (sym (some_there bs h) ∙ q))
@@ -163,7 +161,7 @@ one_encoding bs e n by q =
     of_event bs (Begins bs) (record { client = client_one bs by; origin = origin_one bs by; broken = broken_one bs; tick = tick_one bs; ended = ended_one bs by }) e n q
 
 -- an event takes a byte at least, and none that is not there
-pub event_within : (bs : List ℕ) (e : Arrival) (n : ℕ) → event_of bs ≡ Whole e n → (0 < n) × (n ≤ length bs)
+pub event_within : (bs : List ℕ) (e : Arrival) (n : ℕ) → event_of bs ≡ Ok (Some (e, n)) → (0 < n) × (n ≤ length bs)
 event_within bs e n q =
     of_event bs (λ _ m. (0 < m) × (m ≤ length bs))
     (record {

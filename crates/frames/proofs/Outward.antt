@@ -1,11 +1,11 @@
 -- The bytes of frames that go out read back as those frames.
 use Rattle.std.proofs.Common.{◌≡◌, ℕ, ◌+◌, ◌<◌, ◌≤◌, List, [], ◌∷◌, ◌++◌, length, take, drop, Some, sym, refl, ap, ◌∙◌, arith}
-use Rattle.std.proofs.lemmas.List.{length-append, append_cancel_left}
+use Rattle.std.proofs.lemmas.List.{length-append, append_cancel_left, take_at}
 use Rattle.std.proofs.lemmas.Bool.{le-leb}
 use Rattle.frames.specs.Events.{number, number_at, high, low}
 use Rattle.frames.specs.Frames.{Frame, ToClient, ToOrigin, CloseClient, Open, Close, NotTaken, GoodFrame, frame_bytes, frame_of, once_there, out_bytes}
 use Rattle.frames.specs.Laws.{FramesBack, OneReading}
-use Rattle.frames.proofs.Back.{split, body_back}
+use Rattle.frames.proofs.Back.{split}
 
 there : (n : ℕ) (bs : List ℕ) (f : Frame) → n ≤ length bs → once_there n bs f ≡ Some (f, n)
 there n bs f h = rw (le-leb n (length bs) h)
@@ -15,7 +15,7 @@ client_back c bs rest =
     let all : List ℕ = frame_bytes (ToClient c bs) ++ rest in
     let who = split c in
     let size = split (length bs) in
-    let body = body_back bs rest (number (high (length bs)) (low (length bs))) size in
+    let body = take_at bs rest (number (high (length bs)) (low (length bs))) (sym size) in
     let long : 5 + length bs ≡ length (frame_bytes (ToClient c bs)) = omega arith in
     let fits : 5 + number_at all 3 ≤ length all = omega (arith, size, length-append bs rest) in
     there (5 + number_at all 3) all (ToClient (number_at all 1) (take (number_at all 3) (drop 5 all))) fits ∙ (rw (body, who, size, long))
@@ -24,7 +24,7 @@ origin_back : (i : ℕ) (bs rest : List ℕ) → frame_of (frame_bytes (ToOrigin
 origin_back i bs rest =
     let all : List ℕ = frame_bytes (ToOrigin i bs) ++ rest in
     let size = split (length bs) in
-    let body = body_back bs rest (number (high (length bs)) (low (length bs))) size in
+    let body = take_at bs rest (number (high (length bs)) (low (length bs))) (sym size) in
     let long : 4 + length bs ≡ length (frame_bytes (ToOrigin i bs)) = omega arith in
     let fits : 4 + number_at all 2 ≤ length all = omega (arith, size, length-append bs rest) in
     there (4 + number_at all 2) all (ToOrigin i (take (number_at all 2) (drop 4 all))) fits ∙ (rw (body, size, long))

@@ -1,17 +1,14 @@
 -- In whatever pieces bytes come, the same events are read.
-use Rattle.std.proofs.Common.{◌≡◌, ℕ, zero, suc, ◌≤◌, List, [], ◌∷◌, ◌++◌, length, drop, sym, refl, ap, ◌∙◌, append_assoc, append-nil, arith}
+use Rattle.std.proofs.Common.{◌≡◌, ℕ, zero, suc, ◌≤◌, List, [], ◌∷◌, ◌++◌, length, drop, Some, None, Ok, Err, sym, refl, ap, ◌∙◌, append_assoc, append-nil, arith}
 use Rattle.std.proofs.lemmas.List.{length-drop, drop-append-le}
-use Rattle.frames.specs.declared.faults.Fault.{Fault}
-use Rattle.frames.specs.declared.reading.Reading.{Reading}
-use Rattle.frames.specs.declared.reading.Reading.TheVariants.{More, Refused, Whole}
-use Rattle.frames.specs.Events.{Arrival, event_of}
+use Rattle.frames.specs.Events.{Arrival, Reading, event_of}
 use Rattle.frames.specs.Streams.{End, Left, Stopped, Stream, after, next, events_on, events_of, feed_end, feed, in_pieces, joined}
 use Rattle.frames.specs.Laws.{PiecesAlike}
 use Rattle.frames.proofs.ByKind.{none_there}
 use Rattle.frames.proofs.Back.{event_within}
-use Rattle.frames.proofs.Settled.{settles}
+use Rattle.frames.proofs.Settled.{refused_stays, whole_stays}
 
-shorter : (k : ℕ) (bs : List ℕ) (e : Arrival) (n : ℕ) → event_of bs ≡ Whole e n → length bs ≤ suc k → length (drop n bs) ≤ k
+pub shorter : (k : ℕ) (bs : List ℕ) (e : Arrival) (n : ℕ) → event_of bs ≡ Ok (Some (e, n)) → length bs ≤ suc k → length (drop n bs) ≤ k
 shorter k bs e n q h = let w = event_within bs e n q in rw (length-drop n bs) (omega arith)
 
 -- more steps than bytes read no more
@@ -22,43 +19,37 @@ enough zero (suc j) bs h l = sym (ap (next (events_on j) bs) (none_there bs (ome
 enough (suc k) zero bs h l = ap (next (events_on k) bs) (none_there bs (omega arith))
 enough (suc k) (suc j) bs h l = go (event_of bs) refl (λ n. enough k j (drop n bs))
   where
-    go : (r : Reading Arrival) → event_of bs ≡ r → ((n : ℕ) → length (drop n bs) ≤ k → length (drop n bs) ≤ j → events_on k (drop n bs) ≡ events_on j (drop n bs)) → next (events_on k) bs r ≡ next (events_on j) bs r
-    go More q ih = refl
-    go (Refused f) q ih = refl
-    go (Whole e n) q ih = ap (after e) (ih n (shorter k bs e n q h) (shorter j bs e n q l))
+    go : (r : Reading) → event_of bs ≡ r → ((n : ℕ) → length (drop n bs) ≤ k → length (drop n bs) ≤ j → events_on k (drop n bs) ≡ events_on j (drop n bs)) → next (events_on k) bs r ≡ next (events_on j) bs r
+    go (Ok None) q ih = refl
+    go (Err f) q ih = refl
+    go (Ok (Some (e, n))) q ih = ap (after e) (ih n (shorter k bs e n q h) (shorter j bs e n q l))
 
 pub unrolled : (bs : List ℕ) → events_of bs ≡ next events_of bs (event_of bs)
 unfolding events_of events_on
 unrolled [] = sym (ap (next events_of []) (none_there [] (omega arith)))
 unrolled (b ∷ bs) = go (event_of (b ∷ bs)) refl
   where
-    go : (r : Reading Arrival) → event_of (b ∷ bs) ≡ r → next (events_on (length bs)) (b ∷ bs) r ≡ next events_of (b ∷ bs) r
-    go More q = refl
-    go (Refused f) q = refl
-    go (Whole e n) q = let s = shorter (length bs) (b ∷ bs) e n q (omega arith) in ap (after e) (enough (length bs) (length (drop n (b ∷ bs))) (drop n (b ∷ bs)) s (omega arith))
+    go : (r : Reading) → event_of (b ∷ bs) ≡ r → next (events_on (length bs)) (b ∷ bs) r ≡ next events_of (b ∷ bs) r
+    go (Ok None) q = refl
+    go (Err f) q = refl
+    go (Ok (Some (e, n))) q = let s = shorter (length bs) (b ∷ bs) e n q (omega arith) in ap (after e) (enough (length bs) (length (drop n (b ∷ bs))) (drop n (b ∷ bs)) s (omega arith))
 
 feed_after : (e : Arrival) (es : List Arrival) (end : End) (p : List ℕ) → after e (feed_end es end p) ≡ feed_end (e ∷ es) end p
 feed_after e es (Left rest) p = refl
 feed_after e es (Stopped f) p = refl
-
-is_more : (r : Reading Arrival) (f : Fault) → r ≡ Refused f → r ≡ More → ⊥
-is_more r f p q = let z : ◌≡◌ {A = ℕ} 0 1 = cc in omega arith
-
-is_not : (r : Reading Arrival) (e : Arrival) (n : ℕ) → r ≡ Whole e n → r ≡ More → ⊥
-is_not r e n p q = let z : ◌≡◌ {A = ℕ} 0 1 = cc in omega arith
 
 onward : (k : ℕ) (a b : List ℕ) → length a ≤ k → events_of (a ++ b) ≡ feed (events_on k a) b
 unfolding events_on
 onward zero a b h = refl
 onward (suc k) a b h = go (event_of a) refl (λ n. onward k (drop n a) b)
   where
-    go : (r : Reading Arrival) → event_of a ≡ r → ((n : ℕ) → length (drop n a) ≤ k → events_of (drop n a ++ b) ≡ feed (events_on k (drop n a)) b) → events_of (a ++ b) ≡ feed (next (events_on k) a r) b
-    go More q ih = refl
-    go (Refused f) q ih = unrolled (a ++ b) ∙ ap (next events_of (a ++ b)) (settles a b (is_more (event_of a) f q) ∙ q)
-    go (Whole e n) q ih =
+    go : (r : Reading) → event_of a ≡ r → ((n : ℕ) → length (drop n a) ≤ k → events_of (drop n a ++ b) ≡ feed (events_on k (drop n a)) b) → events_of (a ++ b) ≡ feed (next (events_on k) a r) b
+    go (Ok None) q ih = refl
+    go (Err f) q ih = unrolled (a ++ b) ∙ ap (next events_of (a ++ b)) (refused_stays a b f q)
+    go (Ok (Some (e, n))) q ih =
         let w = event_within a e n q in
         unrolled (a ++ b)
-        ∙ ap (next events_of (a ++ b)) (settles a b (is_not (event_of a) e n q) ∙ q)
+        ∙ ap (next events_of (a ++ b)) (whole_stays a b (e, n) q)
         ∙ ap (λ (z : List ℕ). after e (events_of z)) (drop-append-le n a b w.1)
         ∙ ap (after e) (ih n (shorter k a e n q h))
         ∙ feed_after e (events_on k (drop n a)).events (events_on k (drop n a)).end b

@@ -11,25 +11,24 @@
 --   OneReading   — no two outputs have the same bytes
 --
 -- Assumes nothing.
-use Rattle.std.specs.Prelude.{◌≡◌, ℕ, ◌<◌, ◌≤◌, ◌⊎◌, List, [], ◌∷◌, ◌++◌, length, take, Some, ◌≢◌, slice_index}
+use Rattle.std.specs.Prelude.{◌≡◌, ℕ, ◌<◌, ◌≤◌, ◌⊎◌, List, [], ◌∷◌, ◌++◌, length, take, Some, None, Ok, Err, ◌≢◌, slice_index}
 use Rattle.frames.specs.declared.faults.Fault.TheVariants.{UnknownKind, UnknownConnection}
-use Rattle.frames.specs.declared.reading.Reading.TheVariants.{More, Refused, Whole}
 use Rattle.frames.specs.Events.{Arrival, Good, connections, encode, event_of}
 use Rattle.frames.specs.Frames.{Frame, GoodFrame, frame_bytes, frame_of, out_bytes}
 use Rattle.frames.specs.Streams.{events_of, in_pieces, joined, nothing_yet}
 
 abbrev pub ReadsBack : Type 0
-ReadsBack = (e : Arrival) → Good e → (rest : List ℕ) → event_of (encode e ++ rest) ≡ Whole e (length (encode e))
+ReadsBack = (e : Arrival) → Good e → (rest : List ℕ) → event_of (encode e ++ rest) ≡ Ok (Some (e, length (encode e)))
 
 -- each is a byte
 abbrev pub Bytes : List ℕ → Type 0
 Bytes bs = (k : ℕ) → slice_index bs k < 256
 
 abbrev pub OneEncoding : Type 0
-OneEncoding = (bs : List ℕ) (e : Arrival) (n : ℕ) → Bytes bs → event_of bs ≡ Whole e n → Good e × (take n bs ≡ encode e)
+OneEncoding = (bs : List ℕ) (e : Arrival) (n : ℕ) → Bytes bs → event_of bs ≡ Ok (Some (e, n)) → Good e × (take n bs ≡ encode e)
 
 abbrev pub Settles : Type 0
-Settles = (bs more : List ℕ) → (event_of bs ≢ More) → event_of (bs ++ more) ≡ event_of bs
+Settles = (bs more : List ℕ) → (event_of bs ≢ Ok None) → event_of (bs ++ more) ≡ event_of bs
 
 abbrev pub PiecesAlike : Type 0
 PiecesAlike = (pieces : List (List ℕ)) → in_pieces nothing_yet pieces ≡ events_of (joined pieces)
@@ -41,10 +40,10 @@ abbrev pub BadConnection : List ℕ → Type 0
 BadConnection bs = (1 < length bs) × ((slice_index bs 0 ≡ 2) ⊎ (slice_index bs 0 ≡ 3)) × (connections ≤ slice_index bs 1)
 
 pub record RefusedAt (bs : List ℕ) : Type 0 where
-  pub kind : BadKind bs → event_of bs ≡ Refused UnknownKind
-  pub kind_only : event_of bs ≡ Refused UnknownKind → BadKind bs
-  pub connection : BadConnection bs → event_of bs ≡ Refused UnknownConnection
-  pub connection_only : event_of bs ≡ Refused UnknownConnection → BadConnection bs
+  pub kind : BadKind bs → event_of bs ≡ Err UnknownKind
+  pub kind_only : event_of bs ≡ Err UnknownKind → BadKind bs
+  pub connection : BadConnection bs → event_of bs ≡ Err UnknownConnection
+  pub connection_only : event_of bs ≡ Err UnknownConnection → BadConnection bs
 
 abbrev pub RefusedWhere : Type 0
 RefusedWhere = (bs : List ℕ) → RefusedAt bs

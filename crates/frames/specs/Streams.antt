@@ -8,11 +8,9 @@
 --   in_pieces    — pieces one after the other
 --
 -- Assumes nothing.
-use Rattle.std.specs.Prelude.{ℕ, zero, suc, List, [], ◌∷◌, ◌++◌, length, drop}
+use Rattle.std.specs.Prelude.{ℕ, zero, suc, List, [], ◌∷◌, ◌++◌, length, drop, Some, None, Ok, Err}
 use Rattle.frames.specs.declared.faults.Fault.{Fault}
-use Rattle.frames.specs.declared.reading.Reading.{Reading}
-use Rattle.frames.specs.declared.reading.Reading.TheVariants.{More, Refused, Whole}
-use Rattle.frames.specs.Events.{Arrival, event_of}
+use Rattle.frames.specs.Events.{Arrival, Reading, event_of}
 
 pub data End : Type 0 where
   Left : (rest : List ℕ) → End
@@ -25,10 +23,10 @@ pub record Stream : Type 0 where
 abbrev pub after : Arrival → Stream → Stream
 after e s = record { events = e ∷ s.events; end = s.end }
 
-abbrev pub next : (List ℕ → Stream) → List ℕ → Reading Arrival → Stream
-next on bs More = record { events = []; end = Left bs }
-next on bs (Refused f) = record { events = []; end = Stopped f }
-next on bs (Whole e n) = after e (on (drop n bs))
+abbrev pub next : (List ℕ → Stream) → List ℕ → Reading → Stream
+next on bs (Ok None) = record { events = []; end = Left bs }
+next on bs (Err f) = record { events = []; end = Stopped f }
+next on bs (Ok (Some x)) = after x.0 (on (drop x.1 bs))
 
 unfoldable pub events_on : ℕ → List ℕ → Stream
 events_on zero bs = record { events = []; end = Left bs }

@@ -1,18 +1,18 @@
 -- What the values of the code stand for.
 --
 --   seen         — the event that a value of the code is
---   viewed       — a reading, with what its value stands for in the place of the value
+--   seen_read    — what was read, with the event that its value is
+--   viewed       — the same of a reading that may have been refused
 --   largest      — the most bytes that one frame has: a client's bytes, with their head
 --   Within       — what was read takes some of the bytes that are there, and no others;
 --                  and where more bytes are wanted, there is less than the largest frame
 --
 -- Assumes nothing.
-use Rattle.std.specs.Prelude.{ℕ, ◌<◌, ◌≤◌}
+use Rattle.std.specs.Prelude.{ℕ, ◌<◌, ◌≤◌, Some, None, Ok, Err, Option, Result, option_map}
 use Rattle.frames.specs.declared.events.Event.{Event}
 use Rattle.frames.specs.declared.events.Event.TheVariants as event
-use Rattle.frames.specs.declared.reading.Reading.{Reading}
-use Rattle.frames.specs.declared.reading.Reading.TheVariants.{More, Refused, Whole}
-use Rattle.frames.specs.Events.{Arrival, FromClient, FromOrigin, Broke, Ticked, Gone}
+use Rattle.frames.specs.declared.faults.Fault.{Fault}
+use Rattle.frames.specs.Events.{Arrival, FromClient, FromOrigin, Broke, Ticked, Gone, Reading}
 
 abbrev pub seen : Event → Arrival
 seen (event.Client c bs) = FromClient c bs.now
@@ -21,15 +21,17 @@ seen (event.Broken i) = Broke i
 seen event.Tick = Ticked
 seen (event.Ended c) = Gone c
 
-abbrev pub viewed : Reading Event → Reading Arrival
-viewed More = More
-viewed (Refused f) = Refused f
-viewed (Whole e n) = Whole (seen e) n
+abbrev pub seen_read : Option (Event × ℕ) → Option (Arrival × ℕ)
+seen_read r = option_map (λ (x : Event × ℕ). (seen x.0, x.1)) r
+
+abbrev pub viewed : Result (Option (Event × ℕ)) Fault → Reading
+viewed (Ok r) = Ok (seen_read r)
+viewed (Err f) = Err f
 
 abbrev pub largest : ℕ
 largest = 65540
 
-abbrev pub Within : {A : Type 0} → Reading A → ℕ → Type 0
-Within More m = m < largest
-Within (Refused f) m = Unit {0}
-Within (Whole x n) m = (0 < n) × (n ≤ m)
+abbrev pub Within : {A : Type 0} → Result (Option (A × ℕ)) Fault → ℕ → Type 0
+Within (Ok None) m = m < largest
+Within (Ok (Some x)) m = (0 < x.1) × (x.1 ≤ m)
+Within (Err f) m = Unit {0}

@@ -1,6 +1,7 @@
 // Events, as their frames tell them.
 
-#[derive(Clone, Copy, Drop)]
+/// What happened, with the bytes that came of it.
+#[derive(Clone, Copy, Debug, PartialEq, Eq, Drop)]
 pub enum Event<'a> {
     /// The client of this number sent these bytes.
     Client(u16, &'a [u8]),

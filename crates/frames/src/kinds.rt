@@ -1,28 +1,57 @@
-// The kinds of frames, each a frame's first byte, and how many connections there are.
+// The kinds of frames, each told by a frame's first byte, and how much a frame holds.
+ghost use Rattle.std.specs.Prelude.{◌≡◌};
+ghost use Rattle.frames.specs.Events.{event_kind};
 
-/// Bytes that a client sent.
-pub const CLIENT_BYTES: u8 = 1;
-/// Bytes that the origin sent on a connection.
-pub const ORIGIN_BYTES: u8 = 2;
-/// A connection to the origin broke.
-pub const ORIGIN_BROKEN: u8 = 3;
-/// The clock goes on by one.
-pub const TICK: u8 = 4;
-/// A client ended.
-pub const CLIENT_ENDED: u8 = 5;
+use crate::faults::Fault;
 
-/// Bytes for a client.
-pub const TO_CLIENT: u8 = 16;
-/// Bytes for the origin, on a connection.
-pub const TO_ORIGIN: u8 = 17;
-/// A client is to be closed.
-pub const CLOSE_CLIENT: u8 = 18;
-/// A connection to the origin is to be opened.
-pub const OPEN_CONNECTION: u8 = 19;
-/// A connection to the origin is to be closed.
-pub const CLOSE_CONNECTION: u8 = 20;
-/// So many last bytes of the event were not taken.
-pub const NOT_TAKEN: u8 = 21;
+/// The kinds of frames that come in.
+#[derive(Clone, Copy, Debug, PartialEq, Eq, Drop)]
+pub enum EventKind {
+    /// Bytes that a client sent.
+    ClientBytes,
+    /// Bytes that the origin sent on a connection.
+    OriginBytes,
+    /// A connection to the origin broke.
+    OriginBroken,
+    /// The clock goes on by one.
+    Tick,
+    /// A client ended.
+    ClientEnded,
+}
+
+impl TryFrom<u8> for EventKind {
+    type Error = Fault;
+
+    ghost try_from_gives = { λ kind r. r ≡ event_kind kind };
+
+    fn try_from(kind: u8) -> Result<EventKind, Fault> {
+        match kind {
+            1 => Ok(EventKind::ClientBytes),
+            2 => Ok(EventKind::OriginBytes),
+            3 => Ok(EventKind::OriginBroken),
+            4 => Ok(EventKind::Tick),
+            5 => Ok(EventKind::ClientEnded),
+            _ => Err(Fault::UnknownKind),
+        }
+    }
+}
+
+/// The kinds of frames that go out.
+#[derive(Clone, Copy, Debug, PartialEq, Eq, Drop)]
+pub enum FrameKind {
+    /// Bytes for a client.
+    ToClient = 16,
+    /// Bytes for the origin, on a connection.
+    ToOrigin = 17,
+    /// A client is to be closed.
+    CloseClient = 18,
+    /// A connection to the origin is to be opened.
+    OpenConnection = 19,
+    /// A connection to the origin is to be closed.
+    CloseConnection = 20,
+    /// So many last bytes of the event were not taken.
+    NotTaken = 21,
+}
 
 /// Connections to the origin are numbered from 0 to 7.
 pub const CONNECTIONS: u8 = 8;

@@ -7,7 +7,6 @@ pub mod kinds;
 pub mod memory;
 pub mod numbers;
 pub mod reader;
-pub mod reading;
 pub mod sink;
 pub mod sinks;
 pub mod theorems;

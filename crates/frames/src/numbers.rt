@@ -1,19 +1,16 @@
 // The numbers by which refusals are told.
 ghost use Rattle.std.specs.Prelude.{◌≡◌};
-ghost use Rattle.frames.specs.Numbers.{refusal_number};
+ghost use Rattle.frames.specs.Faults.{refusal_number};
 
 use crate::faults::Fault;
 
-/// A frame that is no event's.
-pub const BAD_FRAME: u8 = 1;
+/// The refusal's number: a frame that is no event's.
+impl From<Fault> for u8 {
+    ghost from_gives = { λ fault number. number ≡ refusal_number fault };
 
-impl Fault {
-    /// The refusal's number.
-    pub fn number(self) -> u8
-        ensures { result ≡ refusal_number self }
-    {
-        match self {
-            Fault::UnknownKind | Fault::UnknownConnection => BAD_FRAME,
+    fn from(fault: Fault) -> u8 {
+        match fault {
+            Fault::UnknownKind | Fault::UnknownConnection => 1,
         }
     }
 }

@@ -1,35 +1,33 @@
 // The program `house`: event frames on standard input, frames on standard output.
 #![tactic(auto)]
 
-ghost use Rattle.std.specs.Prelude.{◌≡◌, ◌+◌, ◌<◌, ◌≤◌, length, take, IfOk};
+ghost use Rattle.std.specs.Prelude.{◌≡◌, ◌<◌, drop, length, IfOk};
+ghost use Rattle.frames.specs.Views.{largest};
 ghost use Rattle.proxy.specs.Batches.{take_all};
-ghost use Rattle.proxy.specs.Steps.{view};
-ghost use Rattle.house.specs.Room.{Carried, NextWithin};
+ghost use Rattle.proxy.specs.Steps.{HaltWithin};
 
-mod buffer;
+mod pending;
 mod report;
 
-use buffer::keep_rest;
-use frames::kinds::LARGEST_FRAME;
 use frames::memory::Growing;
-use proxy::marks::CLIENTS;
+use pending::Pending;
+use proxy::marks::{CLIENTS, Mark};
 use proxy::state::Proxy;
-use proxy::steps::Halt;
-use report::{End, Next, Trouble, tell_end, tell_trouble};
-use std::io::{Read, Write};
+use proxy::steps::{Halt, Taken};
+use report::{End, Trouble};
+use std::io::Write;
 use std::process::ExitCode;
-
-/// What is left of a frame, and a piece of the input behind it that is no shorter than the largest frame.
-const BUFFER: usize = 2 * LARGEST_FRAME;
 
 fn main(rt: HostRuntime) -> ExitCode {
     match run(&rt) {
         Ok(end) => {
-            tell_end(&rt, end);
+            if end.halt != Halt::More {
+                let _ = eprintln!(rt; "house: {end}");
+            }
             ExitCode::SUCCESS
         }
         Err(trouble) => {
-            tell_trouble(&rt, &trouble);
+            let _ = eprintln!(rt; "house: {trouble}");
             ExitCode::FAILURE
         }
     }
@@ -37,95 +35,64 @@ fn main(rt: HostRuntime) -> ExitCode {
 
 /// All memory but that for what goes out is taken here, once.
 fn run(rt: &HostRuntime) -> Result<End, Trouble> {
-    let mut marks = vec![in rt.alloc(); 0u8; CLIENTS]?;
-    let mut buffer = vec![in rt.alloc(); 0u8; BUFFER]?;
+    let mut marks = vec![in rt.alloc(); Mark::Open; CLIENTS]?;
+    let mut pending = Pending::new(rt.alloc())?;
     let mut out = Growing::new(rt.alloc());
     let mut proxy = Proxy::new(&mut marks);
-    pump(rt, &mut proxy, &mut buffer, &mut out)
+    pump(rt, &mut proxy, &mut pending, &mut out)
 }
 
-/// Takes the input piece by piece, until it ends.
+/// Takes the input piece by piece, until it ends or is refused.
 fn pump(
     rt: &HostRuntime,
     proxy: &mut Proxy<'_>,
-    buffer: &mut [u8],
+    pending: &mut Pending,
     out: &mut Growing,
 ) -> Result<End, Trouble>
-    requires { 65540 < length buffer.old }
+    requires { length pending.old < largest }
 {
-    let mut filled = 0usize;
-    let mut before = 0u64;
+    let mut at = 0u64;
     // An input has an end, but nothing says so: this counts further than any input goes.
     for _ in 0..u64::MAX {
-        let len = read_behind(rt, buffer, filled)?;
-        if len == 0 {
+        if pending.read(&mut rt.stdin()).map_err(Trouble::Reading)? == 0 {
             break;
         }
-        let end = filled + len;
-        match take_piece(rt, proxy, buffer, end, out)? {
-            Next::Rest(rest) => {
-                filled = rest;
-                before = before.wrapping_add((end - rest) as u64);
-            }
-            Next::Refused(fault, at) => return Ok(End::Refused(
-                fault,
-                before.wrapping_add(at as u64),
-            )),
-            Next::ClockExhausted(at) => return Ok(End::ClockExhausted(before.wrapping_add(
-                at as u64,
-            ))),
+        let taken = take_piece(rt, proxy, pending, out)?;
+        at = at.wrapping_add(taken.len as u64);
+        match taken.halt {
+            Halt::More => {}
+            halt => return Ok(End { at, halt }),
         }
     }
-    Ok(End::Whole)
+    Ok(End {
+        at,
+        halt: Halt::More,
+    })
 }
 
 /// Takes the events that are there, writes what they bring, and keeps the rest.
 fn take_piece(
     rt: &HostRuntime,
     proxy: &mut Proxy<'_>,
-    buffer: &mut [u8],
-    end: usize,
+    pending: &mut Pending,
     out: &mut Growing,
-) -> Result<Next, Trouble>
-    requires { end ≤ length buffer.old }
-    ensures state { view proxy.new ≡ (take_all (take end buffer.old) (view proxy.old)).turn.after }
-    ensures rest { IfOk result (λ n. NextWithin n end) }
-    ensures front { IfOk result (λ n. Carried n end buffer.old buffer.new) }
+) -> Result<Taken, Trouble>
+    ensures state { proxy.new ≡ (take_all pending.old proxy.old).turn.after }
+    ensures value { IfOk result (λ taken. taken ≡ (take_all pending.old proxy.old).taken) }
+    ensures room { IfOk result (λ taken. HaltWithin taken.halt (length pending.new)) }
+    ensures rest { IfOk result (λ taken. pending.new ≡ drop taken.len pending.old) }
 {
-    let taken = proxy.take_all(&buffer[0..end], out);
+    let taken = proxy.take_all(pending.bytes(), out);
     write_out(rt, out)?;
-    match taken.halt {
-        Halt::More => {
-            keep_rest(buffer, taken.len, end);
-            Ok(Next::Rest(end - taken.len))
-        }
-        Halt::Refused(fault) => Ok(Next::Refused(fault, taken.len)),
-        Halt::ClockExhausted => Ok(Next::ClockExhausted(taken.len)),
-    }
-}
-
-/// Reads some bytes behind the first ones of the buffer, and says how many.
-fn read_behind(rt: &HostRuntime, buffer: &mut [u8], filled: usize) -> Result<usize, Trouble>
-    requires { filled ≤ length buffer.old }
-    ensures bound { IfOk result (λ n. filled + n ≤ length buffer.old) }
-    ensures front { take filled buffer.new ≡ take filled buffer.old }
-{
-    match rt.stdin().read(&mut buffer[filled..]) {
-        Ok(len) => Ok(len),
-        Err(error) => Err(Trouble::Reading(error)),
-    }
+    pending.take(taken.len);
+    Ok(taken)
 }
 
 /// Writes what came out, and keeps the memory for what is to come.
 fn write_out(rt: &HostRuntime, out: &mut Growing) -> Result<(), Trouble> {
-    if out.failed {
-        return Err(Trouble::Memory);
-    }
-    if out.bytes.is_empty() {
-        return Ok(());
-    }
-    if let Err(error) = rt.stdout().write_all(out.bytes.as_slice()) {
-        return Err(Trouble::Writing(error));
+    let bytes = out.taken()?;
+    if !bytes.is_empty() {
+        rt.stdout().write_all(bytes).map_err(Trouble::Writing)?;
     }
     out.clear();
     Ok(())

@@ -1,35 +1,54 @@
 // What is told on standard error.
 use frames::faults::Fault;
+use proxy::steps::Halt;
 use std::alloc::AllocError;
-use std::io;
+use std::{fmt, io};
 
-/// How the input was read to its end.
-#[derive(Drop)]
-pub enum End {
-    /// To its last byte, or to the beginning of a frame that is cut there.
-    Whole,
-    /// The frame behind so many bytes is no event's.
-    Refused(Fault, u64),
-    /// The tick behind so many bytes can't be counted.
-    ClockExhausted(u64),
+/// How far the input was taken, and why no further.
+#[derive(Clone, Copy, Debug, PartialEq, Eq, Drop)]
+pub struct End {
+    /// How many bytes of the input were taken.
+    pub at: u64,
+    /// Why the bytes behind them were not.
+    pub halt: Halt,
 }
 
-/// How it goes on after a piece of the input.
-#[derive(Drop)]
-pub enum Next {
-    /// So many bytes are left, the beginning of a frame.
-    Rest(usize),
-    /// Behind so many bytes of the buffer there is no event.
-    Refused(Fault, usize),
-    /// Behind so many bytes of the buffer there is a tick that can't be counted.
-    ClockExhausted(usize),
+impl fmt::Display for End {
+    fn fmt<W: fmt::Write>(&self, f: &mut fmt::Formatter<W>) -> fmt::Result {
+        let at = self.at;
+        match self.halt {
+            Halt::More => write!(f, "byte {at} of the input is not there"),
+            Halt::Refused(fault) => {
+                let number = u8::from(fault);
+                let place = at.wrapping_add(deciding(fault));
+                write!(
+                    f,
+                    "refused ({number}): byte {place} of the input is {fault}"
+                )
+            }
+            Halt::ClockExhausted => {
+                write!(f, "byte {at} of the input is a tick that can't be counted")
+            }
+        }
+    }
+}
+
+/// Which byte of its frame decides it: the first, or the connection behind it.
+fn deciding(fault: Fault) -> u64 {
+    match fault {
+        Fault::UnknownKind => 0,
+        Fault::UnknownConnection => 1,
+    }
 }
 
 /// What went wrong around the proxy.
-#[derive(Drop)]
+#[derive(Debug, Drop)]
 pub enum Trouble {
+    /// Memory could not be taken.
     Memory,
+    /// Standard input could not be read.
     Reading(io::Error),
+    /// Standard output could not be written.
     Writing(io::Error),
 }
 
@@ -39,34 +58,12 @@ impl From<AllocError> for Trouble {
     }
 }
 
-pub(crate) fn tell_end(rt: &HostRuntime, end: End) {
-    match end {
-        End::Whole => {}
-        End::Refused(fault, at) => tell_refusal(rt, fault, at),
-        End::ClockExhausted(at) => {
-            let _ = eprintln!(rt; "house: byte {at} of the input is a tick that can't be counted");
+impl fmt::Display for Trouble {
+    fn fmt<W: fmt::Write>(&self, f: &mut fmt::Formatter<W>) -> fmt::Result {
+        match self {
+            Trouble::Memory => f.write_str("taking memory: there is too little"),
+            Trouble::Reading(error) => write!(f, "reading standard input: {error}"),
+            Trouble::Writing(error) => write!(f, "writing standard output: {error}"),
         }
     }
-}
-
-/// Says which byte decided it: the frame's first, or the connection behind it.
-fn tell_refusal(rt: &HostRuntime, fault: Fault, at: u64) {
-    let number = fault.number();
-    let connection = at.wrapping_add(1);
-    let _ = match fault {
-        Fault::UnknownKind => eprintln!(rt;
-            "house: refused ({number}): byte {at} of the input is no kind of event"
-        ),
-        Fault::UnknownConnection => eprintln!(rt;
-            "house: refused ({number}): byte {connection} of the input is no connection"
-        ),
-    };
-}
-
-pub(crate) fn tell_trouble(rt: &HostRuntime, trouble: &Trouble) {
-    let _ = match trouble {
-        Trouble::Memory => eprintln!(rt; "house: taking memory: there is too little"),
-        Trouble::Reading(error) => eprintln!(rt; "house: reading standard input: {error}"),
-        Trouble::Writing(error) => eprintln!(rt; "house: writing standard output: {error}"),
-    };
 }

@@ -1,38 +1,23 @@
 -- In whatever pieces bytes come, the same comes of them; and it is what their events bring.
-use Rattle.std.proofs.Common.{◌≡◌, ℕ, zero, suc, ◌+◌, ◌≤◌, Bool, true, false, cond, List, [], ◌∷◌, ◌++◌, length, drop, sym, refl, ap, ◌∙◌, append_assoc, append-nil, arith}
-use Rattle.std.proofs.lemmas.List.{length-drop, drop-drop, drop-append-le}
-use Rattle.frames.specs.declared.faults.Fault.{Fault}
-use Rattle.frames.specs.declared.reading.Reading.{Reading}
-use Rattle.frames.specs.declared.reading.Reading.TheVariants as reading
-use Rattle.frames.specs.Events.{Arrival, event_of}
+use Rattle.std.proofs.Common.{◌≡◌, ℕ, zero, suc, ◌+◌, ◌≤◌, Bool, true, false, cond, List, [], ◌∷◌, ◌++◌, length, drop, Some, None, Ok, Err, sym, refl, ap, ◌∙◌, append_assoc, append-nil, arith}
+use Rattle.std.proofs.lemmas.List.{drop-drop, drop-append-le}
+use Rattle.frames.specs.Events.{Reading, event_of}
 use Rattle.frames.specs.Frames.{Frame}
 use Rattle.frames.specs.Streams as streams
 use Rattle.frames.proofs.Back.{event_within}
-use Rattle.frames.proofs.Settled.{settles}
+use Rattle.frames.proofs.Settled.{refused_stays, whole_stays}
+use Rattle.frames.proofs.Pieces.{shorter}
 use Rattle.proxy.specs.declared.steps.Halt.{Halt}
 use Rattle.proxy.specs.declared.steps.Halt.TheVariants as halt
-use Rattle.proxy.specs.declared.steps.Step.TheVariants.{Took, Halted}
-use Rattle.proxy.specs.Steps.{State, Outcome, still, does, exhausted, step_on}
+use Rattle.proxy.specs.Steps.{State, still, does, exhausted, step_on}
 use Rattle.proxy.specs.Batches.{Batch, ahead, next, take_on, take_all, nothing, by_halt, go_on, pieced, PiecesAlike}
 use Rattle.proxy.specs.Runs.{before, play, TakesEvents}
 use Rattle.proxy.proofs.Stepped.{step_by}
-use Rattle.proxy.proofs.Batched.{ahead_ahead, batch_start, enough, unrolled}
-
-abbrev next_of : (List ℕ → State → Batch) → List ℕ → Outcome → Batch
-next_of on bs o = next on bs o.turn o.step
+use Rattle.proxy.proofs.Batched.{next_of, ahead_ahead, batch_start, enough, unrolled}
 
 -- what bytes bring, by what is read of them
-by_reading : (bs : List ℕ) (s : State) (r : Reading Arrival) → event_of bs ≡ r → take_all bs s ≡ next_of take_all bs (step_on r s)
+by_reading : (bs : List ℕ) (s : State) (r : Reading) → event_of bs ≡ r → take_all bs s ≡ next_of take_all bs (step_on r s)
 by_reading bs s r e = unrolled bs s ∙ ap (next_of take_all bs) (sym (step_by bs s r (sym e)))
-
-refused_not : (r : Reading Arrival) (f : Fault) → r ≡ reading.Refused f → r ≡ reading.More → ⊥
-refused_not r f p q = let z : ◌≡◌ {A = ℕ} 0 1 = cc in omega arith
-
-whole_not : (r : Reading Arrival) (e : Arrival) (n : ℕ) → r ≡ reading.Whole e n → r ≡ reading.More → ⊥
-whole_not r e n p q = let z : ◌≡◌ {A = ℕ} 0 1 = cc in omega arith
-
-shorter : (k : ℕ) (bs : List ℕ) (e : Arrival) (n : ℕ) → event_of bs ≡ reading.Whole e n → length bs ≤ suc k → length (drop n bs) ≤ k
-shorter k bs e n q h = let w = event_within bs e n q in rw (length-drop n bs) (omega arith)
 
 abbrev Rests : List ℕ → List ℕ → State → Batch
 Rests b rest t = take_all (rest ++ b) t
@@ -49,24 +34,18 @@ unfolding take_on
 onward zero a b s h = batch_start (a ++ b) s
 onward (suc k) a b s h = go (event_of a) refl (λ n t. onward k (drop n a) b t)
   where
-    go : (r : Reading Arrival) → event_of a ≡ r → ((n : ℕ) (t : State) → length (drop n a) ≤ k → take_all (drop n a ++ b) t ≡ go_on (Rests b) (drop n a) (take_on k (drop n a) t)) → take_all (a ++ b) s ≡ go_on (Rests b) a (next_of (take_on k) a (step_on r s))
-    go reading.More q ih = batch_start (a ++ b) s
-    go (reading.Refused f) q ih = by_reading (a ++ b) s (reading.Refused f) (settles a b (refused_not (event_of a) f q) ∙ q)
-    go (reading.Whole e n) q ih = by_reading (a ++ b) s (reading.Whole e n) (settles a b (whole_not (event_of a) e n q) ∙ q) ∙ clock (exhausted e s)
+    go : (r : Reading) → event_of a ≡ r → ((n : ℕ) (t : State) → length (drop n a) ≤ k → take_all (drop n a ++ b) t ≡ go_on (Rests b) (drop n a) (take_on k (drop n a) t)) → take_all (a ++ b) s ≡ go_on (Rests b) a (next_of (take_on k) a (step_on r s))
+    go (Ok None) q ih = batch_start (a ++ b) s
+    go (Err f) q ih = by_reading (a ++ b) s (Err f) (refused_stays a b f q)
+    go (Ok (Some (e, n))) q ih = by_reading (a ++ b) s (Ok (Some (e, n))) (whole_stays a b (e, n) q) ∙ clock (exhausted e s)
       where
-        clock : (x : Bool) → next take_all (a ++ b) (cond x (still s) (does e s)) (cond x (Halted halt.ClockExhausted) (Took n)) ≡ go_on (Rests b) a (next (take_on k) a (cond x (still s) (does e s)) (cond x (Halted halt.ClockExhausted) (Took n)))
+        clock : (x : Bool) → next take_all (a ++ b) (cond x (still s) (does e s)) (cond x (Err halt.ClockExhausted) (Ok n)) ≡ go_on (Rests b) a (next (take_on k) a (cond x (still s) (does e s)) (cond x (Err halt.ClockExhausted) (Ok n)))
         clock true = refl
         clock false =
             let w = event_within a e n q in
             ap (λ (z : List ℕ). ahead n (does e s).frames (take_all z (does e s).after)) (drop-append-le n a b w.1)
             ∙ ap (ahead n (does e s).frames) (ih n (does e s).after (shorter k a e n q h))
             ∙ ahead_by a b n (does e s).frames (take_on k (drop n a) (does e s).after) (take_on k (drop n a) (does e s).after).taken.halt
-
-refused_halt : (f : Fault) → halt.Refused f ≡ halt.More → ⊥
-refused_halt f q = let z : ◌≡◌ {A = ℕ} 0 1 = cc in omega arith
-
-exhausted_halt : halt.ClockExhausted ≡ halt.More → ⊥
-exhausted_halt q = let z : ◌≡◌ {A = ℕ} 0 1 = cc in omega arith
 
 abbrev Waits : List ℕ → Batch → Type 0
 Waits a x = x.taken.halt ≡ halt.More → take_all (drop x.taken.len a) x.turn.after ≡ nothing x.turn.after
@@ -80,13 +59,13 @@ unfolding take_on take_all
 waits zero a s h = λ m. enough (length a) zero a s (omega arith) h
 waits (suc k) a s h = go (event_of a) refl (λ n t. waits k (drop n a) t)
   where
-    go : (r : Reading Arrival) → event_of a ≡ r → ((n : ℕ) (t : State) → length (drop n a) ≤ k → Waits (drop n a) (take_on k (drop n a) t)) → Waits a (next_of (take_on k) a (step_on r s))
-    go reading.More q ih = λ m. by_reading a s reading.More q
-    go (reading.Refused f) q ih = λ m. absurd (refused_halt f m)
-    go (reading.Whole e n) q ih = clock (exhausted e s)
+    go : (r : Reading) → event_of a ≡ r → ((n : ℕ) (t : State) → length (drop n a) ≤ k → Waits (drop n a) (take_on k (drop n a) t)) → Waits a (next_of (take_on k) a (step_on r s))
+    go (Ok None) q ih = λ m. by_reading a s (Ok None) q
+    go (Err f) q ih = λ m. cc
+    go (Ok (Some (e, n))) q ih = clock (exhausted e s)
       where
-        clock : (x : Bool) → Waits a (next (take_on k) a (cond x (still s) (does e s)) (cond x (Halted halt.ClockExhausted) (Took n)))
-        clock true = λ m. absurd (exhausted_halt m)
+        clock : (x : Bool) → Waits a (next (take_on k) a (cond x (still s) (does e s)) (cond x (Err halt.ClockExhausted) (Ok n)))
+        clock true = λ m. cc
         clock false = ahead_waits a n (does e s).frames (take_on k (drop n a) (does e s).after) (ih n (does e s).after (shorter k a e n q h))
 
 all_onward : (a b : List ℕ) (s : State) → take_all (a ++ b) s ≡ go_on (Rests b) a (take_all a s)
@@ -123,12 +102,12 @@ unfolding take_on streams.events_on
 takes_on zero bs s m = refl
 takes_on (suc k) bs s m = go (event_of bs) m (λ n t. takes_on k (drop n bs) t)
   where
-    go : (r : Reading Arrival) → ((next_of (take_on k) bs (step_on r s)).taken.halt ≡ halt.ClockExhausted → ⊥) → ((n : ℕ) (t : State) → ((take_on k (drop n bs) t).taken.halt ≡ halt.ClockExhausted → ⊥) → (take_on k (drop n bs) t).turn ≡ play (streams.events_on k (drop n bs)).events t) → (next_of (take_on k) bs (step_on r s)).turn ≡ play (streams.next (streams.events_on k) bs r).events s
-    go reading.More m ih = refl
-    go (reading.Refused f) m ih = refl
-    go (reading.Whole e n) m ih = clock (exhausted e s) m
+    go : (r : Reading) → ((next_of (take_on k) bs (step_on r s)).taken.halt ≡ halt.ClockExhausted → ⊥) → ((n : ℕ) (t : State) → ((take_on k (drop n bs) t).taken.halt ≡ halt.ClockExhausted → ⊥) → (take_on k (drop n bs) t).turn ≡ play (streams.events_on k (drop n bs)).events t) → (next_of (take_on k) bs (step_on r s)).turn ≡ play (streams.next (streams.events_on k) bs r).events s
+    go (Ok None) m ih = refl
+    go (Err f) m ih = refl
+    go (Ok (Some (e, n))) m ih = clock (exhausted e s) m
       where
-        clock : (x : Bool) → ((next (take_on k) bs (cond x (still s) (does e s)) (cond x (Halted halt.ClockExhausted) (Took n))).taken.halt ≡ halt.ClockExhausted → ⊥) → (next (take_on k) bs (cond x (still s) (does e s)) (cond x (Halted halt.ClockExhausted) (Took n))).turn ≡ play (e ∷ (streams.events_on k (drop n bs)).events) s
+        clock : (x : Bool) → ((next (take_on k) bs (cond x (still s) (does e s)) (cond x (Err halt.ClockExhausted) (Ok n))).taken.halt ≡ halt.ClockExhausted → ⊥) → (next (take_on k) bs (cond x (still s) (does e s)) (cond x (Err halt.ClockExhausted) (Ok n))).turn ≡ play (e ∷ (streams.events_on k (drop n bs)).events) s
         clock true no_more = absurd (no_more refl)
         clock false goes = ap (before (does e s).frames) (ih n (does e s).after goes)
 

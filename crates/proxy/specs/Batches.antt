@@ -12,15 +12,13 @@
 --   PiecesAlike  — in whatever pieces bytes come, the same comes of them
 --
 -- Assumes nothing.
-use Rattle.std.specs.Prelude.{◌≡◌, ℕ, zero, suc, ◌+◌, List, [], ◌∷◌, ◌++◌, length, drop}
+use Rattle.std.specs.Prelude.{◌≡◌, ℕ, zero, suc, ◌+◌, List, [], ◌∷◌, ◌++◌, length, drop, Ok, Err}
 use Rattle.frames.specs.Frames.{Frame}
 use Rattle.frames.specs.Streams.{joined}
 use Rattle.proxy.specs.declared.steps.Halt.{Halt}
 use Rattle.proxy.specs.declared.steps.Halt.TheVariants as halt
-use Rattle.proxy.specs.declared.steps.Step.{Step}
-use Rattle.proxy.specs.declared.steps.Step.TheVariants.{Took, Halted}
 use Rattle.proxy.specs.declared.steps.Taken.{Taken}
-use Rattle.proxy.specs.Steps.{State, Turn, still, step_of}
+use Rattle.proxy.specs.Steps.{State, Step, Turn, still, step_of}
 
 pub record Batch : Type 0 where
   pub turn : Turn
@@ -34,8 +32,8 @@ ahead n fs b =
     }
 
 abbrev pub next : (List ℕ → State → Batch) → List ℕ → Turn → Step → Batch
-next on bs t (Took n) = ahead n t.frames (on (drop n bs) t.after)
-next on bs t (Halted h) = record { turn = t; taken = record { len = 0; halt = h } }
+next on bs t (Ok n) = ahead n t.frames (on (drop n bs) t.after)
+next on bs t (Err h) = record { turn = t; taken = record { len = 0; halt = h } }
 
 unfoldable pub take_on : ℕ → List ℕ → State → Batch
 take_on zero bs s = record { turn = still s; taken = record { len = 0; halt = halt.More } }

@@ -1,18 +1,17 @@
 // The proxy's step: an event's bytes in, frames out.
-ghost use Rattle.std.specs.Prelude.{◌≡◌, not, [], length};
+ghost use Rattle.std.specs.Prelude.{◌≡◌, [], length};
 ghost use Rattle.frames.specs.Events.{Ticked};
 ghost use Rattle.frames.specs.Frames.{ToClient, frame_bytes, out_bytes};
 ghost use Rattle.frames.specs.Views.{seen};
 ghost use Rattle.proxy.specs.Responses.{unavailable};
-ghost use Rattle.proxy.specs.Steps.{view, start, is_open, refusal, marked, refuse, from_client, exhausted, handled, step_of, StepWithin};
+ghost use Rattle.proxy.specs.Steps.{start, is_open, refusal, refuse, from_client, counted, handled, step_of, StepWithin};
 
-use crate::marks::{CLOSED, OPEN, clear_marks, is_open, set_mark};
+use crate::marks::{Mark, clear_marks, is_open, set_mark};
 use crate::refusal::service_unavailable;
 use crate::state::Proxy;
-use crate::steps::{Halt, Step};
+use crate::steps::Halt;
 use frames::events::Event;
 use frames::reader::read_event;
-use frames::reading::Reading;
 use frames::sink::Sink;
 use frames::writer::{close_client, to_client};
 
@@ -20,94 +19,74 @@ use frames::writer::{close_client, to_client};
 pub const LAST_TICK: u64 = u64::MAX;
 
 impl<'a> Proxy<'a> {
-    /// A proxy at tick 0 that has closed no client, with places for as many clients as there are bytes.
-    pub fn new(marks: &'a mut [u8]) -> Proxy<'a>
-        ensures { view result ≡ start (length marks.old) }
+    /// A proxy at tick 0 that has closed no client, with places for as many clients as there are marks.
+    pub fn new(marks: &'a mut [Mark]) -> Proxy<'a>
+        ensures { result ≡ start (length marks.old) }
     {
         clear_marks(marks);
         Proxy { tick: 0, marks }
     }
 
-    /// Takes one event from the front of the bytes, and writes the frames that it brings.
-    pub fn step<S: Sink>(&mut self, bytes: &[u8], out: &mut S) -> Step
-        ensures state { view self.new ≡ (step_of bytes.now (view self.old)).turn.after }
-        ensures wrote { S.Sink.took out.old (out_bytes (step_of bytes.now (view self.old)).turn.frames) out.new }
-        ensures value { result ≡ (step_of bytes.now (view self.old)).step }
+    /// Takes one event from the front of the bytes, writes the frames that it brings, and says how many bytes it has.
+    pub fn step<S: Sink>(&mut self, bytes: &[u8], out: &mut S) -> Result<usize, Halt>
+        ensures state { self.new ≡ (step_of bytes.now self.old).turn.after }
+        ensures wrote { S.Sink.took out.old (out_bytes (step_of bytes.now self.old).turn.frames) out.new }
+        ensures value { result ≡ (step_of bytes.now self.old).step }
         ensures within { StepWithin result (length bytes.now) }
     {
-        match read_event(bytes) {
-            Reading::More => Step::Halted(Halt::More),
-            Reading::Refused(fault) => Step::Halted(Halt::Refused(fault)),
-            Reading::Whole(event, len) => {
-                if self.handle(event, out) {
-                    Step::Took(len)
-                } else {
-                    Step::Halted(Halt::ClockExhausted)
-                }
-            }
-        }
+        let (event, len) = read_event(bytes)?.ok_or(Halt::More)?;
+        self.handle(event, out)?;
+        Ok(len)
     }
 
     fn may_answer(&self, client: u16) -> bool
-        ensures { result ≡ is_open self.now.marks.now client }
+        ensures { result ≡ is_open self.now.marks client }
     {
         is_open(self.marks, client)
     }
 
-    fn mark(&mut self, client: u16, mark: u8)
-        ensures { view self.new ≡ marked client mark (view self.old) }
-    {
-        set_mark(self.marks, client, mark);
-    }
-
     fn refuse<S: Sink>(&mut self, client: u16, out: &mut S)
-        ensures state { view self.new ≡ (refuse client (view self.old)).after }
-        ensures wrote { S.Sink.took out.old (out_bytes (refuse client (view self.old)).frames) out.new }
+        ensures state { self.new ≡ (refuse client self.old).after }
+        ensures wrote { S.Sink.took out.old (out_bytes (refuse client self.old).frames) out.new }
     {
-        self.mark(client, CLOSED);
+        set_mark(self.marks, client, Mark::Closed);
         put_refusal(client, out);
     }
 
     fn client_sent<S: Sink>(&mut self, client: u16, bytes: &[u8], out: &mut S)
-        ensures state { view self.new ≡ (from_client client bytes.now (view self.old)).after }
-        ensures wrote { S.Sink.took out.old (out_bytes (from_client client bytes.now (view self.old)).frames) out.new }
+        ensures state { self.new ≡ (from_client client bytes.now self.old).after }
+        ensures wrote { S.Sink.took out.old (out_bytes (from_client client bytes.now self.old).frames) out.new }
     {
-        if 0 < bytes.len() && self.may_answer(client) {
+        if !bytes.is_empty() && self.may_answer(client) {
             self.refuse(client, out);
         }
     }
 
-    /// The clock goes on, or says that it can't.
-    fn tick_on(&mut self) -> bool
-        ensures value { result ≡ not (exhausted Ticked (view self.old)) }
-        ensures state { view self.new ≡ (handled Ticked (view self.old)).after }
-        ensures quiet { (handled Ticked (view self.old)).frames ≡ [] }
+    fn tick_on(&mut self) -> Result<(), Halt>
+        ensures value { result ≡ counted Ticked self.old }
+        ensures state { self.new ≡ (handled Ticked self.old).after }
+        ensures quiet { (handled Ticked self.old).frames ≡ [] }
     {
         if self.tick >= LAST_TICK {
-            return false;
+            return Err(Halt::ClockExhausted);
         }
         self.tick += 1;
-        true
+        Ok(())
     }
 
-    /// Takes an event, or says that the clock is exhausted and takes none.
-    fn handle<S: Sink>(&mut self, event: Event<'_>, out: &mut S) -> bool
-        ensures value { result ≡ not (exhausted (seen event.entry) (view self.old)) }
-        ensures state { view self.new ≡ (handled (seen event.entry) (view self.old)).after }
-        ensures wrote { S.Sink.took out.old (out_bytes (handled (seen event.entry) (view self.old)).frames) out.new }
+    /// Takes an event; at a tick that can't be counted nothing changes.
+    fn handle<S: Sink>(&mut self, event: Event<'_>, out: &mut S) -> Result<(), Halt>
+        ensures value { result ≡ counted (seen event.entry) self.old }
+        ensures state { self.new ≡ (handled (seen event.entry) self.old).after }
+        ensures wrote { S.Sink.took out.old (out_bytes (handled (seen event.entry) self.old).frames) out.new }
     {
         match event {
-            Event::Client(client, bytes) => {
-                self.client_sent(client, bytes, out);
-                true
-            }
-            Event::Origin(_, _) | Event::Broken(_) => true,
-            Event::Tick => self.tick_on(),
-            Event::Ended(client) => {
-                self.mark(client, OPEN);
-                true
-            }
+            Event::Client(client, bytes) => self.client_sent(client, bytes, out),
+            Event::Origin(_, _) | Event::Broken(_) => {}
+            Event::Tick => self.tick_on()?,
+            Event::Ended(client) => set_mark(self.marks, client, Mark::Open),
         }
+        Ok(())
     }
 }
 

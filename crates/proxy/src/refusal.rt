@@ -1,16 +1,11 @@
 // The proxy's own response.
 ghost use Rattle.std.specs.Prelude.{◌≡◌};
-ghost use Rattle.proxy.specs.Responses.{unavailable, unavailable_text};
+ghost use Rattle.proxy.specs.Responses.{unavailable};
 
 /// There is no connection to the origin.
+#[tactic(auto, unfolding(crate::specs::Responses::unavailable))]
 pub fn service_unavailable() -> &'static [u8]
     ensures { result.now ≡ unavailable }
-{
-    unavailable_text()
-}
-
-fn unavailable_text() -> &'static [u8]
-    ensures { result.now ≡ unavailable_text }
 {
     b"HTTP/1.1 503 Service Unavailable\r\ncontent-length: 0\r\n\r\n"
 }

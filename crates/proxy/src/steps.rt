@@ -1,8 +1,11 @@
 // What became of the bytes that were given to the proxy.
+ghost use Rattle.std.specs.Prelude.{◌≡◌};
+ghost use Rattle.proxy.specs.declared.steps.Halt.TheVariants as halt;
+
 use frames::faults::Fault;
 
 /// Why the proxy takes no more of some bytes.
-#[derive(Clone, Copy, Drop)]
+#[derive(Clone, Copy, Debug, PartialEq, Eq, Drop)]
 pub enum Halt {
     /// No whole event is there: it goes on once there are more bytes.
     More,
@@ -12,17 +15,16 @@ pub enum Halt {
     ClockExhausted,
 }
 
-/// What became of the bytes for one event.
-#[derive(Clone, Copy, Drop)]
-pub enum Step {
-    /// An event of so many bytes was taken.
-    Took(usize),
-    /// None was.
-    Halted(Halt),
+impl From<Fault> for Halt {
+    ghost from_gives = { λ fault h. h ≡ halt.Refused fault };
+
+    fn from(fault: Fault) -> Halt {
+        Halt::Refused(fault)
+    }
 }
 
 /// What became of the bytes for as many events as are there.
-#[derive(Clone, Copy, Drop)]
+#[derive(Clone, Copy, Debug, PartialEq, Eq, Drop)]
 pub struct Taken {
     /// How many bytes the events had that were taken.
     pub len: usize,

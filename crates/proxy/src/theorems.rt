@@ -3,23 +3,17 @@ ghost use Rattle.proxy.specs.Batches.{PiecesAlike};
 ghost use Rattle.proxy.specs.Runs.{AnsweredOnce, Unasked, OnlyClients};
 
 /// From one of its ends to the next a client that sends is answered once with 503 and closed, and no other client is.
-pub fn answered_once() -> u8
+pub fn answered_once()
     ensures once { AnsweredOnce }
     ensures unasked { Unasked }
-{
-    0
-}
+{}
 
 /// Nothing is put on a connection.
-pub fn only_clients() -> u8
+pub fn only_clients()
     ensures { OnlyClients }
-{
-    0
-}
+{}
 
 /// In whatever pieces the input comes, the same is written.
-pub fn pieces_alike() -> u8
+pub fn pieces_alike()
     ensures { PiecesAlike }
-{
-    0
-}
+{}

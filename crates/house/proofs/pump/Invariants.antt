@@ -1,6 +1,7 @@
 -- What is left is always less than one frame, so there is room for more.
 use Rattle.std.proofs.Common.{◌<◌, length}
+use Rattle.frames.specs.Views.{largest}
 use Rattle.house.proofs.pump.Given as goal
 
 abbrev pub invariant-loop : goal.invariant-loop
-invariant-loop l = (l.filled < 65540) × (65540 < length l.buffer)
+invariant-loop l = length l.pending < largest

@@ -3,7 +3,7 @@ use Rattle.std.proofs.Common.{◌≡◌, ℕ, ◌+◌, ◌-◌, ◌≤◌, List,
 use Rattle.std.proofs.lemmas.List.{take_rest}
 use Rattle.frames.specs.Frames.{Frame, out_bytes}
 use Rattle.proxy.specs.Batches.{Batch}
-use Rattle.proxy.specs.Steps.{HaltWithin, view, step_of}
+use Rattle.proxy.specs.Steps.{HaltWithin, step_of}
 use Rattle.proxy.proofs.Batched.{out_append, batch_more, batch_end}
 use Rattle.proxy.proofs.Cut.{takes_events}
 use Rattle.proxy.proofs.state.Proxy.take_all.Goals as goal
@@ -21,23 +21,23 @@ loop-len-preserved g c =
     let part : List ℕ = take (length bs - at) (drop at bs) in
     let rest = take_rest bs at in
     let fs : List Frame = c.loop-len.invariant.1.0 in
-    let gs : List Frame = (step_of part (view c.loop-len.self)).turn.frames in (
-      room bs part at c.in-Took.len rest c.loop-len.invariant.0 c.in-Took.ensures.within.1,
+    let gs : List Frame = (step_of part c.loop-len.self).turn.frames in (
+      room bs part at c.in-Ok.len rest c.loop-len.invariant.0 c.in-Ok.ensures.within.1,
       (
         fs ++ gs,
         subst (λ (z : List ℕ). g.S.Sink.took c.args.out.now z c.step.new.out) (sym (out_append fs gs)) (g.S.Sink.onward _ _ _ _ _ c.loop-len.invariant.1.1 c.step.ensures.wrote),
-        batch_more bs part at fs (view c.args.self.now) (view c.loop-len.self) (view c.step.new.self) rest c.loop-len.invariant.1.2 c.step.ensures.state c.in-Took.len c.in-Took.ensures.value,
+        batch_more bs part at fs c.args.self.now c.loop-len.self c.step.new.self rest c.loop-len.invariant.1.2 c.step.ensures.state c.in-Ok.len c.in-Ok.ensures.value,
       ),
     )
 
-pub returns-in-Halted : goal.returns-in-Halted
-returns-in-Halted g c =
+pub returns-in-Err : goal.returns-in-Err
+returns-in-Err g c =
     let bs : List ℕ = c.args.bytes.now in
     let at : ℕ = c.loop-len.at in
     let part : List ℕ = take (length bs - at) (drop at bs) in
     let fs : List Frame = c.loop-len.invariant.1.0 in
-    let gs : List Frame = (step_of part (view c.loop-len.self)).turn.frames in
-    let e = batch_end bs part at fs (view c.args.self.now) (view c.loop-len.self) (view c.step.new.self) (take_rest bs at) c.loop-len.invariant.1.2 c.step.ensures.state c.in-Halted.halt c.in-Halted.ensures.value in
+    let gs : List Frame = (step_of part c.loop-len.self).turn.frames in
+    let e = batch_end bs part at fs c.args.self.now c.loop-len.self c.step.new.self (take_rest bs at) c.loop-len.invariant.1.2 c.step.ensures.state c.in-Err.halt c.in-Err.ensures.value in
     record {
       state = ap (λ (b : Batch). b.turn.after) e;
       wrote =
@@ -45,6 +45,6 @@ returns-in-Halted g c =
           (subst (λ (z : List ℕ). g.S.Sink.took c.args.out.now z c.step.new.out) (sym (out_append fs gs)) (g.S.Sink.onward _ _ _ _ _ c.loop-len.invariant.1.1 c.step.ensures.wrote));
       value = ap (λ (b : Batch). b.taken) e;
       within = c.loop-len.invariant.0;
-      events = takes_events bs (view c.args.self.now);
-      rest = subst (HaltWithin c.in-Halted.halt) (left bs part at (take_rest bs at)) c.in-Halted.ensures.within;
+      events = takes_events bs c.args.self.now;
+      rest = subst (HaltWithin c.in-Err.halt) (left bs part at (take_rest bs at)) c.in-Err.ensures.within;
     }
