@@ -1,5 +1,5 @@
 -- What the calls of a store read of its shelf, and change of it.
-use Rattle.std.proofs.Common.{◌≡◌, ℕ, true, List, map, length, get_or, set, Some, None, Option, refl, ap, ◌∙◌, arith, length-take, le-leb}
+use Rattle.std.proofs.Common.{◌≡◌, ℕ, min, true, List, map, length, get_or, set, Some, None, Option, refl, ap, ◌∙◌, arith, length-take, le-leb}
 use lib.ListN.{get_or-map}
 use Rattle.std.proofs.lemmas.List.{map-set, length-map, get_or_default}
 use Rattle.std.specs.Option.{option_map}
@@ -18,7 +18,7 @@ slot_there xs i = get_or-map slot_of xs i None
 
 -- whatever validator is stored is short
 short : (t : Short) → is_short (short_of t) ≡ true
-short t = le-leb (length (short_of t)) 255 (omega (arith, length-take t.len t.bytes))
+short t = le-leb (length (short_of t)) 255 (omega (arith, length-take (min t.len 255) t.bytes))
 
 short_tag : (t : Option Short) → is_short_tag (option_map short_of t) ≡ true
 short_tag None = refl

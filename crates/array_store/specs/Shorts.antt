@@ -1,22 +1,17 @@
 -- Short byte strings by value.
 --
---   short_of      the bytes that a short byte string stands for
---   no_short      the empty one
+--   short_of      the bytes that a short byte string stands for; a length past the end counts as all of them
 --   is_short      there is room for these bytes
 --   is_short_tag  there is room for this validator, if there is one
 --   is_known      there is room for a key with this path, language and validator
 --   is_fitting    there is room for a response with this validator and body
 --
 -- Assumes nothing.
-use Rattle.std.specs.Prelude.{ℕ, Bool, true, ◌&&◌, List, length, take, replicate, Some, None, Option, nat_le}
-use Rattle.std.proofs.Common.{arith}
+use Rattle.std.specs.Prelude.{ℕ, min, Bool, true, ◌&&◌, List, length, take, Some, None, Option, nat_le}
 use Rattle.array_store.specs.declared.types.Short.{Short}
 
 abbrev pub short_of : Short → List ℕ
-short_of t = take t.len t.bytes
-
-abbrev pub no_short : Short
-no_short = record { len = 0; bytes = replicate 255 0; within = omega arith }
+short_of t = take (min t.len 255) t.bytes
 
 abbrev pub is_short : List ℕ → Bool
 is_short t = nat_le (length t) 255

@@ -9,7 +9,7 @@ use Rattle.cache.specs.declared.types.Words.{Words}
 use Rattle.cache.specs.declared.types.Looked.{Looked}
 use Rattle.cache.specs.declared.types.Looked.TheVariants.{Forwarded}
 use Rattle.cache.specs.declared.types.RequestError.{RequestError}
-use Rattle.cache.specs.declared.types.RequestError.TheVariants.{NoConnection}
+use Rattle.cache.specs.declared.types.RequestError.TheVariants.{Refused}
 use Rattle.cache.specs.Rules.{State, Ask, turn, may_serve, key_of, free_link, can_forward, begins, forwards, revalidates, serves, reads_at, reads_from, requested}
 use Rattle.cache.specs.Answers.{key_at, is_pinned, is_stale, may_go, is_spent, last_use, older, oldest_to, or_else, room_for, may_store, row_for, put_at, stored}
 use Rattle.cache.specs.Decisions.{servable_row, servable_at, servable, is_served, KeepsOthers, SparesPinned, StoresIt}
@@ -20,7 +20,7 @@ bad : {P : Type 0} → ◌≡◌ {A = ℕ} 0 1 → P
 bad e = absurd (omega arith)
 
 -- what is forwarded or refused is not served
-not_served : (x : Bool) (t u : State) (c : ℕ) → is_served (cond x (turn t (Ok (Forwarded c))) (turn u (Err NoConnection))).gives ≡ false
+not_served : (x : Bool) (t u : State) (c : ℕ) → is_served (cond x (turn t (Ok (Forwarded c))) (turn u (Err Refused))).gives ≡ false
 not_served true t u c = refl
 not_served false t u c = refl
 

@@ -35,10 +35,10 @@ impl<S: Store> Cache<S> {
     pub fn release(&mut self, c: usize)
         ensures { state_of S.view self.new ≡ released c (state_of S.view self.old) }
     {
-        if let Some(connection) = Connection::new(c) {
-            if self.links[c].is_none() {
-                self.store.release(connection);
-            }
+        if let Some(connection) = Connection::new(c)
+            && self.links[c].is_none()
+        {
+            self.store.release(connection);
         }
     }
 

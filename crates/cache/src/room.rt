@@ -44,6 +44,7 @@ impl<S: Store> Cache<S> {
     fn find_oldest(&self) -> Option<usize>
         ensures { result ≡ oldest_to (length (S.view self.now.store).slots) (state_of S.view self.now) }
     {
+        // Not `min_by_key`: the fold is the definition that the choice is proved by, turn by turn.
         (0..self.store.places()).fold(None, |best, place| self.older(best, place))
     }
 
@@ -75,6 +76,7 @@ impl<S: Store> Cache<S> {
         self.store.row(place).is_some() && !self.is_pinned(place)
     }
 
+    // 0 for a free place, which `older` never asks about.
     fn last_use(&self, place: usize) -> u64
         ensures { result ≡ last_use (slot_at place (S.view self.now.store)) }
     {

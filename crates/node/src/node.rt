@@ -1,4 +1,4 @@
-// The calls of a cache by value. None asks anything of its caller.
+// The calls of a cache by value. None asks anything of its caller: a connection is any number, since a `Connection` would.
 ghost use Rattle.std.specs.Prelude.{◌≡◌, ◌≤◌, is_ok, slice_index_or};
 ghost use Rattle.array_store.specs.Shorts.{is_known, is_fitting};
 ghost use Rattle.cache.specs.Answers.{reply_of, received, lost};

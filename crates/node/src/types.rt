@@ -1,4 +1,4 @@
-// A cache by value, whose store has its size.
+// A cache by value: the outermost struct.
 use array_store::types::ArrayStore;
 use cache::types::Cache;
 

@@ -16,8 +16,8 @@
 --   kept_on, owner_on what is judged of a version that a client is given for a path, from the store; from the origin
 --
 -- Assumes nothing.
-use Rattle.std.specs.Prelude.{ℕ, ◌-◌, Bool, true, false, cond, not, ◌&&◌, ◌||◌, List, Some, None, Option, Ok, Err, Result, fold, ◌==◌, nat_eq, nat_le, nat_lt}
-use Rattle.std.specs.List.{list_any}
+use Rattle.std.specs.Prelude.{ℕ, ◌-◌, Bool, true, false, cond, not, ◌&&◌, ◌||◌, List, Some, None, Option, Ok, Err, Result, fold, reverse, ◌==◌, nat_eq, nat_le, nat_lt}
+use Rattle.std.specs.List.{list_any, find}
 use Rattle.std.specs.Option.{option_eq}
 use Rattle.play.specs.declared.types.Moment.{Moment}
 use Rattle.play.specs.declared.types.Version.{Version}
@@ -60,8 +60,12 @@ same_version v w = v.resource == w.resource && option_eq nat_eq v.text w.text
 abbrev pub is_fresh : Version → ℕ → Received → Bool
 is_fresh v now a = same_version a.version v && (not a.words.private && (not a.words.no_cache && (a.storable && nat_le (now - a.forwarded) a.words.lifetime)))
 
+abbrev pub lifetime_in : Option Received → ℕ
+lifetime_in None = 0
+lifetime_in (Some a) = a.words.lifetime
+
 abbrev pub lifetime_on : Version → ℕ → List Received → ℕ
-lifetime_on v now rs = fold (λ life a. cond (is_fresh v now a) a.words.lifetime life) 0 rs
+lifetime_on v now rs = lifetime_in (find (is_fresh v now) (reverse rs))
 
 abbrev pub is_undone : ℕ → ℕ → Latest → Settled → Bool
 is_undone path before latest w = w.path == path && (nat_lt w.event before && not (lasts_past latest w.done))

@@ -1,7 +1,7 @@
 // The judge: every answer is held to what the origin had, by the history of the run and nothing else.
-ghost use Rattle.std.specs.Prelude.{◌≡◌};
-ghost use Rattle.std.specs.List.{list_any};
-ghost use Rattle.play.specs.Judge.{leaves, seen_change, latest_on, lasts_past, ago_of, is_fresh, lifetime_on, is_undone, is_withdrawing, is_shared, kept_judged, owner_judged};
+ghost use Rattle.std.specs.Prelude.{◌≡◌, reverse};
+ghost use Rattle.std.specs.List.{list_any, find};
+ghost use Rattle.play.specs.Judge.{leaves, seen_change, latest_on, lasts_past, ago_of, is_fresh, lifetime_on, is_undone, is_withdrawing, is_shared, never_so, kept_judged, owner_judged};
 
 use crate::types::{
     Breach, Change, Given, History, Judged, Latest, Moment, Received, Settled, Version,
@@ -13,11 +13,7 @@ impl History {
         ensures { result ≡ kept_judged self.now given now }
     {
         let Some(version) = given.version else {
-            return Judged {
-                verdict: Err(Breach::NeverSo),
-                ago: 0,
-                lifetime: 0,
-            };
+            return Judged::never_so(0);
         };
         let latest = latest_moment(&self.changes, version);
         let ago = latest.ago(now.tick);
@@ -45,11 +41,7 @@ impl History {
         ensures { result ≡ owner_judged self.now given since lifetime tick }
     {
         let Some(version) = given.version else {
-            return Judged {
-                verdict: Err(Breach::NeverSo),
-                ago: 0,
-                lifetime,
-            };
+            return Judged::never_so(lifetime);
         };
         let latest = latest_moment(&self.changes, version);
         let verdict = if latest == Latest::Never {
@@ -64,6 +56,19 @@ impl History {
         Judged {
             verdict,
             ago: latest.ago(tick),
+            lifetime,
+        }
+    }
+}
+
+impl Judged {
+    /// Of what was never the origin's.
+    fn never_so(lifetime: u64) -> Judged
+        ensures { result ≡ never_so lifetime }
+    {
+        Judged {
+            verdict: Err(Breach::NeverSo),
+            ago: 0,
             lifetime,
         }
     }
@@ -129,13 +134,18 @@ impl Latest {
 pub fn said_lifetime(answers: &[Received], version: Version, tick: u64) -> u64
     ensures { result ≡ lifetime_on version tick answers.now }
 {
-    answers.iter().fold(0, |lifetime, answer| {
-        if answer.is_fresh(version, tick) {
-            answer.words.lifetime
-        } else {
-            lifetime
-        }
-    })
+    last_fresh(answers, version, tick).map_or(0, |answer| answer.words.lifetime)
+}
+
+/// The last answer that lets a version be shown at this tick.
+fn last_fresh(answers: &[Received], version: Version, tick: u64) -> Option<Received>
+    ensures { result ≡ find (is_fresh version tick) (reverse answers.now) }
+{
+    answers
+        .iter()
+        .rev()
+        .copied()
+        .find(|answer| answer.is_fresh(version, tick))
 }
 
 impl Received {

@@ -1,6 +1,6 @@
 // The names of a play, by number.
-ghost use Rattle.std.specs.Prelude.{◌≡◌, []};
-ghost use Rattle.play.specs.Tables.{name_at, name_of, word_number, number_of_name, InternedWord, Interned};
+ghost use Rattle.std.specs.Prelude.{◌≡◌, ◌≤◌, [], length};
+ghost use Rattle.play.specs.Tables.{name_of, word_number, number_of_name, InternedWord, Interned};
 
 use crate::types::{MOST_NAMES, NAME_BYTES, Names, ScriptError};
 use indexmap::IndexSet;
@@ -16,24 +16,18 @@ impl Names {
         }
     }
 
-    /// The name with a number; empty past the last.
-    pub fn name_at(&self, number: usize) -> &[u8]
-        ensures { result.now ≡ name_at self.now.items.keys number }
+    /// The name with a number: the empty one for no number, and past the last.
+    pub fn name(&self, number: Option<usize>) -> &[u8]
+        ensures name { result.now ≡ name_of self.now.items.keys number }
+        ensures short { length result.now ≤ 255 }
     {
-        self.items
-            .get_index(number)
+        number
+            .and_then(|number| self.items.get_index(number))
             .map_or(&[], |name| name.as_slice())
     }
 
-    /// The same, and the empty name for no number.
-    pub fn name(&self, number: Option<usize>) -> &[u8]
-        ensures { result.now ≡ name_of self.now.items.keys number }
-    {
-        number.map_or(&[], |number| self.name_at(number))
-    }
-
     /// The number of a name, if it is there.
-    pub fn word_number(&self, name: &[u8]) -> Option<usize>
+    fn word_number(&self, name: &[u8]) -> Option<usize>
         ensures { result ≡ word_number self.now.items.keys name.now }
     {
         self.items.get_index_of(name)
@@ -51,7 +45,7 @@ impl Names {
     }
 
     /// The number of a name, which it is given if it has none.
-    pub fn intern_word(&mut self, name: &[u8]) -> Result<usize, ScriptError>
+    pub(crate) fn intern_word(&mut self, name: &[u8]) -> Result<usize, ScriptError>
         ensures { InternedWord self.old.items.keys self.new.items.keys name.now result }
     {
         if name.len() > NAME_BYTES {

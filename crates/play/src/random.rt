@@ -65,7 +65,7 @@ impl Game {
     }
 }
 
-/// A body that no other command has: five digits.
+/// A body by the number of its command: five digits.
 fn label(n: u64) -> [u8; 5]
     ensures { result ≡ label_of n }
 {
@@ -171,6 +171,7 @@ impl Rolls {
 }
 
 /// The name with this number; empty past the last.
+// No `Option`: a die has no more sides than its table has names.
 fn pick(names: &[&'static [u8]], n: u64) -> &'static [u8]
     ensures { MatchOption (slice_get names.now n) (result.now ≡ []) (λ name. result.now ≡ name.now) }
 {

@@ -1,6 +1,5 @@
 // What a line of a script says.
 ghost use Rattle.std.specs.Prelude.{◌≡◌, true};
-ghost use Rattle.std.specs.Option.{option_map};
 ghost use Rattle.play.specs.Script.{both, before_comment, cut_at, name_length, spelled_verb, spelled_field, verb_of, takes_two, field_of, may_stand, said_of, unsaid, seen_ok, set_field, with_word, settings_on, second_of, line_of, line_with, seen_line, parsed};
 
 use crate::types::{Command, Field, MOST_SETTINGS, ScriptError, Settings, Verb};
@@ -31,7 +30,8 @@ fn before_comment(line: &[u8]) -> &[u8]
     &line[..len]
 }
 
-/// The second word of the subject, and what stands behind it; none for a verb that takes one word.
+/// The second word of the subject, and what stands behind it; empty for a verb that takes one word.
+// No `Option`: which words a command takes is what `Command::new` asks its verb.
 fn second_of(verb: Verb, text: &[u8]) -> Result<(&[u8], &[u8]), ScriptError>
     ensures { seen_ok both result ≡ second_of verb text.now }
 {

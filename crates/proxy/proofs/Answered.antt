@@ -1,4 +1,5 @@
 -- Each client is answered once from one end to the next.
+use Rattle.std.proofs.lemmas.Bool.{or_parts}
 use Rattle.std.proofs.Common.{◌≡◌, ℕ, ◌<◌, Bool, true, false, cond, not, ◌&&◌, ◌||◌, eqb, ltb, ◌≢◌, List, [], ◌∷◌, ◌++◌, length, get_or, refl, ap, ◌∙◌, subst, ⊎_elim, length-set}
 use lib.ListN.{length-replicate}
 use Rattle.std.proofs.lemmas.List.{get_or-set_same, get_or-set_other, get_or-replicate}
@@ -116,14 +117,10 @@ once c false true false = refl
 once c false false true = refl
 once c false false false = refl
 
-neither : (p q : Bool) → (p || q) ≡ false → (p ≡ false) × (q ≡ false)
-neither true q e = (e, cc)
-neither false q e = (refl, e)
-
 play_frames : (c : ℕ) (b : Bool) (es : List Arrival) (s : State) → Known c b s → ended c es ≡ false → about c (play es s).frames ≡ cond (sent c es && not b) (refusal c) []
 play_frames c b [] s m q = refl
 play_frames c b (e ∷ es) s m q =
-    let apart = neither (ends c e) (ended c es) q in
+    let apart = or_parts (ends c e) (ended c es) q in
     let flag : spoken_at b c e ≡ (sends c e || b) = ap (λ (z : Bool). cond z false (sends c e || b)) apart.0 in
     let later = play_frames c (spoken_at b c e) es (does e s).after (does_mark c b e s m) apart.1 in
     about-append c (does e s).frames (play es (does e s).after).frames
@@ -154,7 +151,7 @@ quiet c (Gone d) s q = refl
 unasked_on : (c : ℕ) (es : List Arrival) (s : State) → sent c es ≡ false → about c (play es s).frames ≡ []
 unasked_on c [] s q = refl
 unasked_on c (e ∷ es) s q =
-    let apart = neither (sends c e) (sent c es) q in
+    let apart = or_parts (sends c e) (sent c es) q in
     about-append c (does e s).frames (play es (does e s).after).frames
     ∙ ap (λ (z : List Frame). z ++ about c (play es (does e s).after).frames) (quiet c e s apart.0)
     ∙ unasked_on c es (does e s).after apart.1

@@ -26,6 +26,7 @@ pub fn set_mark(marks: &mut [Mark], client: u16, mark: Mark)
     ensures { marks.new ≡ slice_set marks.old client mark }
 {
     let place = usize::from(client);
+    // By index: after `get_mut` the check knows no other element.
     if place < marks.len() {
         marks[place] = mark;
     }

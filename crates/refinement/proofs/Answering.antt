@@ -15,6 +15,7 @@ use Rattle.cache.specs.Rules.{State, Turn, turn, with_slots}
 use Rattle.cache.specs.Answers.{Reply, Full, NotModified, Done, Other, key_at, ended_at, marked_to, settled, may_store, room_for, row_for, put_at, stored, withdrawn, agreed, full, renewed_row, renewed_at, renewed, not_modified, given_up, faulty, same_for, read_answered, write_answered, answered_on, received, lost_on}
 use Rattle.model.specs.Exchanges as model
 use Rattle.model.specs.World as world
+use Rattle.std.proofs.lemmas.Bool.{and_parts}
 use Rattle.model.specs.Promise.{On}
 use Rattle.refinement.specs.Numbers.{number_of, text_of}
 use Rattle.refinement.specs.Stands.{setting_of, key_language, validator_for, validator_of, life_of, language_in, stored_of, slot_of, Good, AllGood, is_write, Same, Shows, Stands, HonestFull, Honest}
@@ -167,16 +168,11 @@ module _ (b : Bodies) (s : world.Setting) (st : State) (w : world.World) (h : St
       asked_tag : is_tagged (key_at c st).path (key_at c st).language t r ≡ true
       asked_tag = sym (ap (λ (o : Option (List ℕ)). is_asked_for (key_at c st) o r) tagged) ∙ asked
 
-      parts : (u v : Bool) → (u && v) ≡ true → (u ≡ true) × (v ≡ true)
-      parts true true e = (refl, refl)
-      parts true false e = bad (cc)
-      parts false v e = bad (cc)
-
       for_it : is_for (key_at c st).path (key_at c st).language r ≡ true
-      for_it = (parts (is_for (key_at c st).path (key_at c st).language r) (tag_is r.tag t) asked_tag).0
+      for_it = (and_parts (is_for (key_at c st).path (key_at c st).language r) (tag_is r.tag t) asked_tag).0
 
       tag_it : r.tag ≡ Some t
-      tag_it = go r.tag (parts (is_for (key_at c st).path (key_at c st).language r) (tag_is r.tag t) asked_tag).1
+      tag_it = go r.tag (and_parts (is_for (key_at c st).path (key_at c st).language r) (tag_is r.tag t) asked_tag).1
         where
           go : (o : Option (List ℕ)) → tag_is o t ≡ true → o ≡ Some t
           go None e = bad (cc)

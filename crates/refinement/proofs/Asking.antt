@@ -4,12 +4,14 @@ use Rattle.std.proofs.lemmas.Bool.{lt-ltb}
 use Rattle.std.proofs.lemmas.Bool.Decides.{nat_tests}
 use Rattle.std.specs.List.{position}
 use Rattle.store.specs.Slots.{Response, Slot, Empty, Filled, Key, no_key, is_for, holds, with_row, row_of, tag_of, body_of}
-use Rattle.store.proofs.Firsts.{first_passes, found_passes}
+use Rattle.std.proofs.lemmas.List.Sums.{passes_at_first}
+use Rattle.store.proofs.Firsts.{found_passes}
+use Rattle.std.proofs.lemmas.Bool.{cases_eq}
 use Rattle.cache.specs.declared.types.Exchange.{Exchange}
 use Rattle.cache.specs.declared.types.Looked.{Looked}
 use Rattle.cache.specs.declared.types.Looked.TheVariants.{Forwarded}
 use Rattle.cache.specs.declared.types.RequestError.{RequestError}
-use Rattle.cache.specs.declared.types.RequestError.TheVariants.{NoConnection}
+use Rattle.cache.specs.declared.types.RequestError.TheVariants.{Refused}
 use Rattle.cache.specs.Rules.{State, Ask, Turn, turn, can_tick, may_serve, key_of, is_idle, free_link, can_forward, begun, begins, forwards, asks_same, revalidates, used_at, serves, serves_unless, reads_at, reads_from}
 use Rattle.model.specs.Exchanges as model
 use Rattle.model.specs.World as world
@@ -18,7 +20,7 @@ use Rattle.refinement.specs.Stands.{key_language, validator_of, language_in, sto
 use Rattle.refinement.specs.Steps.{method_of, looked_events, looked_gives, StepSo, TickSo, AskSo, changes, acts, declines, OriginSo}
 use Rattle.promise.proofs.Lists.{bad}
 use Rattle.refinement.proofs.Slots.{get_slot, set_slot, set_same, good_at, good-set, is_for_lem, for_resource, for_key, may_serve_lem}
-use Rattle.refinement.proofs.Links.{same_or_not, shows_begun}
+use Rattle.refinement.proofs.Links.{shows_begun}
 use Rattle.cache.proofs.Names.{Knows}
 use Rattle.refinement.proofs.Names.{Bodies}
 
@@ -51,7 +53,7 @@ answered_stands : (b : Bodies) (s : world.Setting) (st : State) (w w' : world.Wo
 answered_stands b s st w w' c y r h on qn qx qs qc = record { tick = h.tick ∙ sym qn; next = h.next ∙ sym qx; links = links; slots = h.slots ∙ sym qs; good = h.good; eight = h.eight; eight_keys = h.eight_keys; eight_held = h.eight_held; eight_connections = ap length qc ∙ (length-set w.connections c _ ∙ h.eight_connections) }
   where
     links : (d : ℕ) → Shows b s (get_or st.links d None) (get_or st.keys d no_key) (get_or st.held d []) (get_or w'.connections d model.Idle)
-    links d = ⊎_elim here there (same_or_not d c)
+    links d = ⊎_elim here there (cases_eq d c)
       where
         here : d ≡ c → Shows b s (get_or st.links d None) (get_or st.keys d no_key) (get_or st.held d []) (get_or w'.connections d model.Idle)
         here e = subst (λ (k : model.Connection). Shows b s (get_or st.links d None) (get_or st.keys d no_key) (get_or st.held d []) k)
@@ -117,7 +119,7 @@ begins_so b s w knows a own tag body st h hold = go (can_forward knows (key_of a
     free x e = grind (arith, nat_tests)
 
     idle : free_link st < 8 → get_or w.connections (free_link st) model.Idle ≡ model.Idle
-    idle l = shows_idle b s (get_or st.links (free_link st) None) _ _ _ (is_idle_lem (get_or st.links (free_link st) None) (first_passes is_idle st.links None (omega (arith, h.eight)))) (h.links (free_link st))
+    idle l = shows_idle b s (get_or st.links (free_link st) None) _ _ _ (is_idle_lem (get_or st.links (free_link st) None) (passes_at_first is_idle st.links None (omega (arith, h.eight)))) (h.links (free_link st))
 
     new : model.Validator → model.Exchange
     new v = world.request w.next w.now a.client (number_of a.path) (number_of a.language) (method_of a.write) v a.storable
@@ -147,7 +149,7 @@ begins_so b s w knows a own tag body st h hold = go (can_forward knows (key_of a
         let q = forward_step s w c a.client (number_of a.path) (number_of a.language) (method_of a.write) v a.storable (idle l) (lt-ltb c 8 l) in
         record { stands = subst (λ (z : world.World). Stands b s st' z) (sym q) (after l v e); delivered = ap (λ (z : world.World). z.delivered) q }
 
-    go : (x : Bool) → can_forward knows (key_of a tag) st ≡ x → AskTurn b s w a st (cond x (turn st' (Ok (Forwarded c))) (turn st (Err NoConnection)))
+    go : (x : Bool) → can_forward knows (key_of a tag) st ≡ x → AskTurn b s w a st (cond x (turn st' (Ok (Forwarded c))) (turn st (Err Refused)))
     go true e = forwarded (free _ e)
     go false e = record { stands = h; delivered = refl }
 

@@ -1,10 +1,10 @@
 -- What is done to the connections of a cache is done to the connections of the model.
-use Rattle.std.proofs.Common.{◌≡◌, ℕ, zero, suc, ◌<◌, ◌≤◌, Bool, true, false, cond, eqb, ◌≢◌, ◌⊎◌, List, [], length, get_or, set, sym, refl, ap, ◌∙◌, subst, inl, inr, ⊎_elim, arith, length-set, get_or-set_other, get_or-set_same, Some, None, Option}
+use Rattle.std.proofs.Common.{◌≡◌, ℕ, zero, suc, ◌<◌, ◌≤◌, Bool, true, false, cond, eqb, ◌≢◌, List, [], length, get_or, set, sym, refl, ap, ◌∙◌, subst, ⊎_elim, arith, length-set, get_or-set_other, get_or-set_same, Some, None, Option}
 use Rattle.std.proofs.lemmas.List.{get_or_past}
-use Rattle.std.proofs.lemmas.Bool.{eqb-true, eqb-false}
 use Rattle.std.specs.Str.{bytes_eq}
 use Rattle.store.specs.Slots.{Key, no_key}
 use Rattle.cache.specs.declared.types.Exchange.{Exchange}
+use Rattle.std.proofs.lemmas.Bool.{cases_eq, cases_lt}
 use Rattle.cache.specs.Answers.{outdated, mark_if, marked_at, marked_to}
 use Rattle.model.specs.Exchanges as model
 use Rattle.model.specs.World as world
@@ -13,18 +13,6 @@ use Rattle.refinement.specs.Stands.{Same, Shows}
 use Rattle.promise.proofs.Lists.{bad}
 use Rattle.refinement.proofs.Numbered.{bytes_number}
 use Rattle.refinement.proofs.Names.{Bodies}
-
-pub same_or_not : (i j : ℕ) → (i ≡ j) ⊎ (i ≢ j)
-same_or_not i j = go (eqb i j) refl
-  where
-    go : (b : Bool) → eqb i j ≡ b → (i ≡ j) ⊎ (i ≢ j)
-    go true e = inl (eqb-true i j e)
-    go false e = inr (eqb-false i j e)
-
-below_or_not : (i j : ℕ) → (i < j) ⊎ (j ≤ i)
-below_or_not i zero = inr (omega arith)
-below_or_not zero (suc j) = inl (omega arith)
-below_or_not (suc i) (suc j) = ⊎_elim (λ h. inl (omega arith)) (λ h. inr (omega arith)) (below_or_not i j)
 
 length_marked : (n : ℕ) (path : List ℕ) (keys : List Key) (links : List (Option Exchange)) → length (marked_to n path keys links) ≡ length links
 unfolding marked_to
@@ -42,7 +30,7 @@ marked_above (suc n) path keys links c h = let ne : c ≢ n = omega arith in get
 marked_below : (n : ℕ) (path : List ℕ) (keys : List Key) (links : List (Option Exchange)) (c : ℕ) → n ≤ length links → c < n → get_or (marked_to n path keys links) c None ≡ mark_if (bytes_eq (get_or keys c no_key).path path) (get_or links c None)
 unfolding marked_to
 marked_below zero path keys links c l h = absurd (omega arith)
-marked_below (suc n) path keys links c l h = ⊎_elim here (there (λ g. marked_below n path keys links c (omega arith) g)) (same_or_not c n)
+marked_below (suc n) path keys links c l h = ⊎_elim here (there (λ g. marked_below n path keys links c (omega arith) g)) (cases_eq c n)
   where
     long : n < length (marked_to n path keys links)
     long = omega (arith, length_marked n path keys links)
@@ -55,7 +43,7 @@ marked_below (suc n) path keys links c l h = ⊎_elim here (there (λ g. marked_
     there ih ne = get_or-set_other (marked_to n path keys links) n c _ None ne ∙ ih (omega arith)
 
 pub marked-get : (path : List ℕ) (keys : List Key) (links : List (Option Exchange)) (c : ℕ) → length links ≡ 8 → get_or (marked_to 8 path keys links) c None ≡ mark_if (bytes_eq (get_or keys c no_key).path path) (get_or links c None)
-marked-get path keys links c e = ⊎_elim (λ l. marked_below 8 path keys links c (omega arith) l) (λ l. marked_above 8 path keys links c l ∙ past (get_or links c None) (get_or_past links c None (omega arith))) (below_or_not c 8)
+marked-get path keys links c e = ⊎_elim (λ l. marked_below 8 path keys links c (omega arith) l) (λ l. marked_above 8 path keys links c l ∙ past (get_or links c None) (get_or_past links c None (omega arith))) (cases_lt c 8)
   where
     past : (l : Option Exchange) → l ≡ None → l ≡ mark_if (bytes_eq (get_or keys c no_key).path path) l
     past None q = refl
@@ -81,7 +69,7 @@ module _ (b : Bodies) (s : world.Setting) (links : List (Option Exchange)) (keys
     (old : (d : ℕ) → Shows b s (get_or links d None) (get_or keys d no_key) (get_or held d []) (get_or conns d model.Idle)) (c : ℕ) (below : c < 8) where
   -- an exchange begins
   pub shows_begun : (l : Option Exchange) (k : Key) (h : List ℕ) (conn : model.Connection) → Shows b s l k h conn → (d : ℕ) → Shows b s (get_or (set links c l) d None) (get_or (set keys c k) d no_key) (get_or (set held c h) d []) (get_or (set conns c conn) d model.Idle)
-  shows_begun l k h conn new d = ⊎_elim here there (same_or_not d c)
+  shows_begun l k h conn new d = ⊎_elim here there (cases_eq d c)
     where
       all : (i : ℕ) (l1 l2 : Option Exchange) (k1 k2 : Key) (h1 h2 : List ℕ) (c1 c2 : model.Connection) → l1 ≡ l2 → k1 ≡ k2 → h1 ≡ h2 → c1 ≡ c2 → Shows b s l2 k2 h2 c2 → Shows b s l1 k1 h1 c1
       all i l1 l2 k1 k2 h1 h2 c1 c2 p q r t z = rw (p, q, r, t) z
@@ -95,7 +83,7 @@ module _ (b : Bodies) (s : world.Setting) (links : List (Option Exchange)) (keys
 
   -- an exchange ends
   pub shows_ended : (d : ℕ) → Shows b s (get_or (set links c None) d None) (get_or keys d no_key) (get_or held d []) (get_or (set conns c model.Idle) d model.Idle)
-  shows_ended d = ⊎_elim here there (same_or_not d c)
+  shows_ended d = ⊎_elim here there (cases_eq d c)
     where
       both : (l1 l2 : Option Exchange) (c1 c2 : model.Connection) → l1 ≡ l2 → c1 ≡ c2 → Shows b s l2 (get_or keys d no_key) (get_or held d []) c2 → Shows b s l1 (get_or keys d no_key) (get_or held d []) c1
       both l1 l2 c1 c2 p q z = rw (p, q) z

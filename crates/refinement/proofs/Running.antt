@@ -1,6 +1,7 @@
 -- Every honest run keeps the promise.
 use Rattle.std.proofs.Common.{◌≡◌, ℕ, zero, suc, ◌+◌, Bool, true, false, cond, ◌&&◌, ltb, List, [], ◌∷◌, ◌++◌, map, get_or, set, replicate, sym, refl, ap, ◌∙◌, subst, ⊎_elim, length-set, get_or-set_other, Some, None, Option}
 use Rattle.store.specs.Slots.{Response, Empty, Filled, Key, no_key}
+use Rattle.std.proofs.lemmas.Bool.{cases_eq}
 use Rattle.cache.specs.declared.types.Exchange.{Exchange}
 use Rattle.cache.specs.Rules.{State, can_tick, ticked, is_idle, released}
 use Rattle.cache.specs.Decisions.{OnePlace}
@@ -13,7 +14,6 @@ use Rattle.refinement.specs.Stands.{slot_of, AllGood, Shows, Stands}
 use Rattle.refinement.specs.Steps.{StepSo, changes, acts, declines}
 use Rattle.refinement.specs.Runs.{Happening, Ticks, Asks, Answers, Loses, Releases, Changes, Acts, Declines, Run, Terms, setting_in, fresh, goes, run, Honest, CacheKeeps, CacheHasOnePlace}
 use Rattle.promise.proofs.Lists.{bad, get_replicate}
-use Rattle.refinement.proofs.Links.{same_or_not}
 use Rattle.refinement.proofs.Asking.{tick_so, origin_so, ask_so}
 use Rattle.refinement.proofs.Answering.{answer_so, lose_so}
 use Rattle.refinement.proofs.Names.{Bodies}
@@ -59,7 +59,7 @@ release_stands b s c st w h = go (ltb c 8 && is_idle (get_or st.links c None)) r
 
     links : get_or st.links c None ≡ None → (d : ℕ) → Shows b s (get_or st.links d None) (get_or st.keys d no_key) (get_or (set st.held c []) d []) (get_or w.connections d model.Idle)
     links e d = ⊎_elim (λ q. any_held (get_or st.links d None) _ (get_or st.held d []) _ _ (ap (λ (i : ℕ). get_or st.links i None) q ∙ e) (h.links d))
-        (λ ne. subst (λ (z : List ℕ). Shows b s (get_or st.links d None) (get_or st.keys d no_key) z (get_or w.connections d model.Idle)) (sym (get_or-set_other st.held c d [] [] ne)) (h.links d)) (same_or_not d c)
+        (λ ne. subst (λ (z : List ℕ). Shows b s (get_or st.links d None) (get_or st.keys d no_key) z (get_or w.connections d model.Idle)) (sym (get_or-set_other st.held c d [] [] ne)) (h.links d)) (cases_eq d c)
 
     go : (x : Bool) → (ltb c 8 && is_idle (get_or st.links c None)) ≡ x → Stands b s (cond x (record { tick = st.tick; next = st.next; links = st.links; slots = st.slots; keys = st.keys; held = set st.held c [] }) st) w
     go false e = h

@@ -5,6 +5,8 @@ use Rattle.std.specs.Str.{bytes_eq}
 use Rattle.store.specs.Slots.{Response, Slot, Empty, Filled, Key, is_for, of_path, is_tagged, tag_is, without}
 use Rattle.cache.specs.Rules.{may_serve}
 use Rattle.model.specs.Exchanges as model
+use lib.ListN.{get_or-map}
+use Rattle.std.proofs.lemmas.List.{map-set, set-get_or}
 use Rattle.model.specs.World as world
 use Rattle.refinement.specs.Numbers.{number_of, text_of}
 use Rattle.refinement.specs.Stands.{key_language, language_in, stored_of, slot_of, Good, AllGood}
@@ -12,20 +14,14 @@ use Rattle.refinement.proofs.Numbered.{bytes_number, bytes_same, tag_number}
 use Rattle.refinement.proofs.Names.{Bodies}
 
 pub get_slot : (ks : List Slot) (i : ℕ) → get_or (map slot_of ks) i model.Empty ≡ slot_of (get_or ks i Empty)
-get_slot [] i = refl
-get_slot (k ∷ ks) zero = refl
-get_slot (k ∷ ks) (suc i) = get_slot ks i
+get_slot ks i = get_or-map slot_of ks i Empty
 
 pub set_slot : (ks : List Slot) (i : ℕ) (k : Slot) → map slot_of (set ks i k) ≡ set (map slot_of ks) i (slot_of k)
-set_slot [] i k = refl
-set_slot (x ∷ ks) zero k = refl
-set_slot (x ∷ ks) (suc i) k = ap (λ (z : List model.Slot). slot_of x ∷ z) (set_slot ks i k)
+set_slot ks i k = map-set slot_of ks i k
 
 -- a place that is written with what it has
 pub set_same : (ks : List model.Slot) (i : ℕ) → set ks i (get_or ks i model.Empty) ≡ ks
-set_same [] i = refl
-set_same (x ∷ ks) zero = refl
-set_same (x ∷ ks) (suc i) = ap (λ (z : List model.Slot). x ∷ z) (set_same ks i)
+set_same ks i = set-get_or ks i model.Empty
 
 -- emptied by a test, which says the same of a response and of what it stands for
 pub map-without : (b : Bodies) (s : world.Setting) (test : Response → Bool) (test' : model.Stored → Bool) → ((r : Response) → Good b s r → test' (stored_of r) ≡ test r) → (ks : List Slot) → AllGood b s ks → map slot_of (map (without test) ks) ≡ map (world.without test') (map slot_of ks)

@@ -15,10 +15,6 @@ first_later p x xs e = rw e (omega arith)
 pub found_passes : {X : Type 0} (p : X → Bool) (xs : List X) (d : X) (i : ℕ) → position p xs ≡ Some i → (i < length xs) × (p (get_or xs i d) ≡ true)
 found_passes p xs d i h = let f = position-Some p xs i d h in (f.0, f.1)
 
--- the first that passes, passes
-pub first_passes : {X : Type 0} (p : X → Bool) (xs : List X) (d : X) → position_or_len p xs < length xs → p (get_or xs (position_or_len p xs) d) ≡ true
-first_passes p xs d l = (found_passes p xs d (position_or_len p xs) (ap (λ b. cond b (Some (position_or_len p xs)) None) (lt-ltb (position_or_len p xs) (length xs) l))).1
-
 -- where it is found, and where none is
 pub found_at : {X : Type 0} (p : X → Bool) (xs : List X) (i : ℕ) → position p xs ≡ Some i → (i ≡ position_or_len p xs) × (i < length xs)
 found_at p xs i h = go (ltb (position_or_len p xs) (length xs)) refl h

@@ -94,10 +94,10 @@ fn fmt_judged<W: fmt::Write>(
     } else {
         write!(f, "so {ago} s ago, of {lifetime}")?;
     }
-    match verdict {
-        Ok(()) => Ok(()),
-        Err(breach) => write!(f, "  NOT AS PROMISED: {breach}"),
+    if let Err(breach) = verdict {
+        write!(f, "  NOT AS PROMISED: {breach}")?;
     }
+    Ok(())
 }
 
 /// A name of the play, as text.

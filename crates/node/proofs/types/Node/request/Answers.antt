@@ -4,5 +4,5 @@ use Rattle.node.specs.Worlds.{state_in}
 use Rattle.node.proofs.Stepped.{asked_so}
 use Rattle.node.proofs.types.Node.request.Goals as goal
 
-pub returns : goal.returns
-returns c = record { state = c.request.ensures.state; gives = c.request.ensures.gives; world = asked_so (ask_of c.args.request) (state_in c.args.self.now) _ c.request.ensures.state }
+pub returns-clause-world : goal.returns-clause-world
+returns-clause-world c = asked_so (ask_of c.args.request) (state_in c.args.self.now) _ c.request.ensures.state

@@ -16,4 +16,4 @@ interned_some items after name n e h = subst (λ (b : Bool). InternedAs items af
 pub returns : goal.returns
 returns c =
     let full : (length c.args.name.now == 0) ≡ false = search rules in
-    interned_some c.args.self.now.items.keys c.intern_word.new.self.items.keys c.args.name.now c.in_ok-intern_word.field-0 full c.in_ok-intern_word.ensures
+    (c.in_ok-intern_word.ensures.0, interned_some c.args.self.now.items.keys c.intern_word.new.self.items.keys c.args.name.now c.in_ok-intern_word.field-0 full c.in_ok-intern_word.ensures.1)

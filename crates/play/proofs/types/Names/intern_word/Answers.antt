@@ -29,4 +29,5 @@ returns c =
     let none : None ≡ position (is_named c.args.name.now) c.args.self.now.items.keys = search rules in
     let kept : c.insert_full.new.self.keys ≡ insert_key (λ a b. bytes_eq a.items b.items) c.args.self.now.items.keys c.in_ok-owned.owned = search rules in
     let at : c.in_ok-number.number ≡ position_or_len (is_named c.in_ok-owned.owned.items) c.args.self.now.items.keys = search rules in
-    interned_new c.args.self.now.items.keys c.insert_full.new.self.keys c.in_ok-owned.owned c.args.name.now c.in_ok-number.number same none kept at
+    let few : length c.args.name.now ≤ 255 = search rules in
+    (few, interned_new c.args.self.now.items.keys c.insert_full.new.self.keys c.in_ok-owned.owned c.args.name.now c.in_ok-number.number same none kept at)
