@@ -18,6 +18,7 @@ const TICK_LEN: usize = 1;
 /// The kind and the client.
 const ENDED_LEN: usize = 3;
 
+// `within` stands on each reader: a std `Option` or `Result`, which holds what was read, carries no fact of its own.
 /// Reads one event from the front of `bytes`, and says how many of them it takes; none, where more are wanted.
 #[tactic(auto, unfolding(crate::specs::Events::event_of))]
 pub fn read_event(bytes: &[u8]) -> Result<Option<(Event<'_>, usize)>, Fault>

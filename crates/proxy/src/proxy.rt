@@ -18,6 +18,7 @@ use frames::writer::{close_client, to_client};
 /// The last tick that is counted.
 pub const LAST_TICK: u64 = u64::MAX;
 
+// What is left and what is written are two clauses each time: the one is of the proxy, the other of the sink.
 impl<'a> Proxy<'a> {
     /// A proxy at tick 0 that has closed no client, with places for as many clients as there are marks.
     pub fn new(marks: &'a mut [Mark]) -> Proxy<'a>
