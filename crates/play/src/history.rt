@@ -6,6 +6,7 @@ use std::alloc::Global;
 
 // Three that note, and none for all lists: each is one push, and says that the other two lists stay.
 impl History {
+    /// Nothing has happened yet.
     pub fn new(heap: Global) -> History
         ensures changes { result.changes.items ≡ [] }
         ensures answers { result.answers.items ≡ [] }

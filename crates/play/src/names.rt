@@ -7,6 +7,7 @@ use indexmap::IndexSet;
 use std::alloc::Global;
 
 impl Names {
+    /// No names yet.
     pub fn new(heap: Global) -> Names
         ensures { result.items.keys ≡ [] }
     {

@@ -12,7 +12,11 @@ const CLIENTS: [&[u8]; 4] = [b"anna", b"bo", b"cleo", b"dan"];
 
 const DIGITS: [&[u8]; 8] = [b"0", b"1", b"2", b"3", b"4", b"5", b"6", b"7"];
 
+/// A roll by which the origin has something else: the verbs share a hundred sides.
+const ORIGIN_ROLL: u64 = 23;
+
 impl Dice {
+    /// Dice that fall by a seed.
     pub fn new(seed: u64) -> Dice
         ensures { result.state ≡ seed }
     {
@@ -28,10 +32,7 @@ impl Dice {
             .state
             .wrapping_mul(6_364_136_223_846_793_005)
             .wrapping_add(1_442_695_040_888_963_407);
-        if sides == 0 {
-            return 0;
-        }
-        self.state / 8_589_934_592 % sides
+        (self.state / 8_589_934_592).checked_rem(sides).unwrap_or(0)
     }
 
     /// What a command is chosen by.
@@ -85,7 +86,7 @@ impl Rolls {
     {
         if n < 4 {
             Rolls {
-                verb: 23,
+                verb: ORIGIN_ROLL,
                 path: n,
                 ..self
             }
@@ -115,7 +116,7 @@ fn random_command<'a>(rolls: Rolls, label: &'a [u8], n: u64) -> Command<'a> {
             path,
             settings: rolls.in_language(),
         },
-        23..=27 => Command::Origin {
+        ORIGIN_ROLL..=27 => Command::Origin {
             path,
             settings: rolls.had(label, n),
         },
