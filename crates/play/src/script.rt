@@ -163,6 +163,7 @@ impl Verb {
     ];
 
     /// The verb of a word.
+    // No `TryFrom`: of the chain under an `ok_or` the proof didn't close.
     fn named(word: &[u8]) -> Option<Verb>
         ensures { result ≡ verb_of word.now }
     {
