@@ -32,6 +32,7 @@ impl<S: Store> Cache<S> {
     }
 
     /// Nothing is held any more for a connection whose answer was delivered; what is under way keeps what it holds.
+    // Any number: a `Connection` would ask more of callers.
     pub fn release(&mut self, c: usize)
         ensures { state_of S.view self.new ≡ released c (state_of S.view self.old) }
     {

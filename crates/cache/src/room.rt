@@ -13,6 +13,7 @@ use store::types::{CONNECTIONS, Connection};
 
 impl<S: Store> Cache<S> {
     /// The place of an older answer to what a connection asks for, or the lowest that is free, or the best to give up.
+    // `choose` does it: `keeps` and `spares` are proved of what it gives.
     pub fn room_for(&self, c: Connection) -> Option<usize>
         ensures value { result ≡ room_for c.number (state_of S.view self.now) }
         ensures keeps { KeepsOthers c.number (state_of S.view self.now) result }

@@ -37,6 +37,7 @@ impl History {
     }
 
     /// Judges, at a tick, an answer of the origin's to what was forwarded at the event `since`.
+    // No `Moment`: `since` is when the request was forwarded, and `tick` is now.
     pub fn judge_owner(&self, given: Given, since: u64, lifetime: u64, tick: u64) -> Judged
         ensures { result ≡ owner_judged self.now given since lifetime tick }
     {
@@ -120,6 +121,7 @@ impl Latest {
     }
 
     /// How many ticks ago it was last so.
+    // 0 for `Never`, which is a breach whatever its age.
     pub fn ago(self, now: u64) -> u64
         ensures { result ≡ ago_of self now }
     {
@@ -131,6 +133,7 @@ impl Latest {
 }
 
 /// The lifetime in the last answer that lets a version be shown at this tick; 0 if none does.
+// No `Option`: a lifetime of 0 lets nothing be shown either.
 pub fn said_lifetime(answers: &[Received], version: Version, tick: u64) -> u64
     ensures { result ≡ lifetime_on version tick answers.now }
 {

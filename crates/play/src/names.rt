@@ -18,6 +18,7 @@ impl Names {
     }
 
     /// The name with a number: the empty one for no number, and past the last.
+    // No `Option`: the empty name is a name, and is printed like any other.
     pub fn name(&self, number: Option<usize>) -> &[u8]
         ensures name { result.now ≡ name_of self.now.items.keys number }
         ensures short { length result.now ≤ 255 }

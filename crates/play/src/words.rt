@@ -16,8 +16,7 @@ pub fn cut_word(text: &[u8]) -> Option<(&[u8], &[u8])>
     Some(word.split_at(first_blank(word).unwrap_or(word.len())))
 }
 
-// `position` under three names: a proof does not see what a `position` found once a step follows it, and of one
-// over a closure each call would have to say what the closure gives.
+// `position` under three names: a proof sees neither what one found once a step follows it, nor what a closure in one gives.
 fn first_other(text: &[u8]) -> Option<usize>
     ensures is { result ≡ position is_other text.now }
     ensures within { IfSome result (λ n. n < length text.now) }
