@@ -1,3 +1,3 @@
 -- Lemmas on a store by value.
 pub mod Changes
-pub mod Shelves
+pub mod Viewed

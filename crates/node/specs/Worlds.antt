@@ -12,7 +12,7 @@
 use Rattle.std.specs.Prelude.{Bool, cond, List, [], ℕ, nat_lt, slice_index_or, replicate, is_some, count_by}
 use Rattle.std.specs.List.{range_with_len}
 use Rattle.store.specs.Slots.{Slot, Empty, no_key, row_of}
-use Rattle.array_store.specs.Places.{shelf_of}
+use Rattle.array_store.specs.Places.{contents_of}
 use Rattle.array_store.specs.Shorts.{is_known, is_fitting}
 use Rattle.cache.specs.Rules.{State, Ask, state_of, started}
 use Rattle.cache.specs.Answers.{Reply}
@@ -23,7 +23,7 @@ use Rattle.refinement.specs.Runs.{Happening, Terms, Honest, Kept}
 use Rattle.node.specs.declared.types.Node.{Node}
 
 abbrev pub state_in : Node → State
-state_in n = state_of shelf_of n.cache
+state_in n = state_of contents_of n.cache
 
 abbrev pub begun : State
 begun = started (replicate 64 Empty) (replicate 8 no_key) (replicate 8 [])

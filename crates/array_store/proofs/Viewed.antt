@@ -1,4 +1,4 @@
--- What the calls of a store read of its shelf, and change of it.
+-- What the calls of a store read of its contents, and change of it.
 use Rattle.std.proofs.Common.{◌≡◌, ℕ, min, true, List, map, length, get_or, set, Some, None, Option, refl, ap, ◌∙◌, arith, length-take, le-leb}
 use lib.ListN.{get_or-map}
 use Rattle.std.proofs.lemmas.List.{map-set, length-map, get_or_default}
@@ -35,4 +35,4 @@ short_stored xs i = ap (λ s. is_short_tag (tag_of s)) (slot_there xs i) ∙ sho
 pub keys_kept : (xs : List Asked) (i : ℕ) (d : Asked) (h : Short) → map (λ a. key_of a.key) (set xs i (record { key = (get_or xs i d).key; held = h })) ≡ map (λ a. key_of a.key) xs
 keys_kept xs i d h = map-set_same (λ (a : Asked). key_of a.key) xs i (record { key = (get_or xs i d).key; held = h }) d refl
 
-pub ruleset shelved = (keys_kept, map-set, length-map, first_map, any_map, short_stored, slot_there, get_or_default)
+pub ruleset viewed = (keys_kept, map-set, length-map, first_map, any_map, short_stored, slot_there, get_or_default)
