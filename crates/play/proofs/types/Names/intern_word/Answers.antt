@@ -7,20 +7,20 @@ use Rattle.std.specs.Str.{bytes_eq}
 use Rattle.std.proofs.lemmas.List.Sums.{prefix_len-le-length}
 use Rattle.indexmap.specs.IndexSet.{insert_key}
 use Rattle.store.proofs.Firsts.{found_past, found_any}
-use Rattle.play.specs.Tables.{is_named, InternedWordAs}
+use Rattle.play.specs.Tables.{is_named, InternedAs}
 use Rattle.play.proofs.types.Names.intern_word.Goals as goal
 
-interned_last : (items after : List (Vec ℕ Global)) (v : Vec ℕ Global) (n : ℕ) → position (is_named v.items) items ≡ None → after ≡ insert_key (λ a b. bytes_eq a.items b.items) items v → n ≡ position_or_len (is_named v.items) items → InternedWordAs items after v.items n (position (is_named v.items) items)
+interned_last : (items after : List (Vec ℕ Global)) (v : Vec ℕ Global) (n : ℕ) → position (is_named v.items) items ≡ None → after ≡ insert_key (λ a b. bytes_eq a.items b.items) items v → n ≡ position_or_len (is_named v.items) items → InternedAs items after v.items (length items) n (position (is_named v.items) items)
 interned_last items after v n none kept at =
     let past : length items ≤ position_or_len (is_named v.items) items = found_past (is_named v.items) items none in
     let le : position_or_len (is_named v.items) items ≤ length items = omega (arith, prefix_len-le-length {X = Vec ℕ Global}) in
     let last : after ≡ items ++ v ∷ [] = kept ∙ ap (λ b. if b then items else items ++ v ∷ []) (found_any (is_named v.items) items none) in
     let number : n ≡ length items = omega arith in
-    subst (InternedWordAs items after v.items n) (sym none) (v, refl, last, number)
+    subst (InternedAs items after v.items (length items) n) (sym none) (v, refl, last, number)
 
-interned_new : (items after : List (Vec ℕ Global)) (v : Vec ℕ Global) (name : List ℕ) (n : ℕ) → v.items ≡ name → None ≡ position (is_named name) items → after ≡ insert_key (λ a b. bytes_eq a.items b.items) items v → n ≡ position_or_len (is_named v.items) items → InternedWordAs items after name n (position (is_named name) items)
+interned_new : (items after : List (Vec ℕ Global)) (v : Vec ℕ Global) (name : List ℕ) (n : ℕ) → v.items ≡ name → None ≡ position (is_named name) items → after ≡ insert_key (λ a b. bytes_eq a.items b.items) items v → n ≡ position_or_len (is_named v.items) items → InternedAs items after name (length items) n (position (is_named name) items)
 interned_new items after v name n same none kept at =
-    subst (λ (s : List ℕ). InternedWordAs items after s n (position (is_named s) items)) same
+    subst (λ (s : List ℕ). InternedAs items after s (length items) n (position (is_named s) items)) same
     (interned_last items after v n (ap (λ (s : List ℕ). position (is_named s) items) same ∙ sym none) kept at)
 
 pub returns : goal.returns
