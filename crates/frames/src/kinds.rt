@@ -1,5 +1,5 @@
 // The kinds of frames, each told by a frame's first byte, and how much a frame holds.
-ghost use Rattle.std.specs.Prelude.{◌≡◌};
+ghost use Rattle.std.specs.Prelude.{◌≡◌, Ok};
 ghost use Rattle.frames.specs.Events.{event_kind};
 
 use crate::faults::Fault;
@@ -8,15 +8,15 @@ use crate::faults::Fault;
 #[derive(Clone, Copy, Debug, PartialEq, Eq, Drop)]
 pub enum EventKind {
     /// Bytes that a client sent.
-    ClientBytes,
+    ClientBytes = 1,
     /// Bytes that the origin sent on a connection.
-    OriginBytes,
+    OriginBytes = 2,
     /// A connection to the origin broke.
-    OriginBroken,
+    OriginBroken = 3,
     /// The clock goes on by one.
-    Tick,
+    Tick = 4,
     /// A client ended.
-    ClientEnded,
+    ClientEnded = 5,
 }
 
 impl TryFrom<u8> for EventKind {
@@ -33,6 +33,14 @@ impl TryFrom<u8> for EventKind {
             5 => Ok(EventKind::ClientEnded),
             _ => Err(Fault::UnknownKind),
         }
+    }
+}
+
+impl From<EventKind> for u8 {
+    ghost from_gives = { λ kind byte. event_kind byte ≡ Ok kind };
+
+    fn from(kind: EventKind) -> u8 {
+        kind as u8
     }
 }
 

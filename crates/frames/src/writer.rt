@@ -1,5 +1,5 @@
 // Writing the frames that go out.
-ghost use Rattle.std.specs.Prelude.{◌≡◌, [], ◌∷◌, ◌++◌, cond, length};
+ghost use Rattle.std.specs.Prelude.{◌≡◌, true, false, [], ◌∷◌, ◌++◌, length, MatchResult};
 ghost use Rattle.frames.specs.Events.{high, low};
 ghost use Rattle.frames.specs.Frames.{ToClient, ToOrigin, CloseClient, Open, Close, NotTaken, frame_bytes, short, written, answer};
 
@@ -13,7 +13,13 @@ pub fn to_client<S: Sink>(client: u16, bytes: &[u8], out: &mut S) -> Result<(), 
     ensures wrote { S.Sink.took out.old (written bytes.now (ToClient client bytes.now)) out.new }
 {
     let [high, low] = client.to_be_bytes();
-    put_counted(&[FrameKind::ToClient as u8, high, low], bytes, out)
+    let [many, few] = counted(bytes)?;
+    put_both(
+        &[FrameKind::ToClient as u8, high, low, many, few],
+        bytes,
+        out,
+    );
+    Ok(())
 }
 
 /// Bytes for the origin, on a connection.
@@ -21,7 +27,13 @@ pub fn to_origin<S: Sink>(connection: u8, bytes: &[u8], out: &mut S) -> Result<(
     ensures value { result ≡ answer bytes.now }
     ensures wrote { S.Sink.took out.old (written bytes.now (ToOrigin connection bytes.now)) out.new }
 {
-    put_counted(&[FrameKind::ToOrigin as u8, connection], bytes, out)
+    let [many, few] = counted(bytes)?;
+    put_both(
+        &[FrameKind::ToOrigin as u8, connection, many, few],
+        bytes,
+        out,
+    );
+    Ok(())
 }
 
 /// A client is to be closed.
@@ -56,16 +68,20 @@ pub fn not_taken<S: Sink>(client: u16, count: u16, out: &mut S)
     out.put(&[FrameKind::NotTaken as u8, high, low, many, few]);
 }
 
-/// A frame's head, and the bytes behind their length, where they are few enough for one frame.
-fn put_counted<S: Sink>(head: &[u8], bytes: &[u8], out: &mut S) -> Result<(), Unwritten>
-    ensures value { result ≡ answer bytes.now }
-    ensures wrote { S.Sink.took out.old (cond (short bytes.now) (head.now ++ (high (length bytes.now) ∷ low (length bytes.now) ∷ bytes.now)) []) out.new }
+/// How many bytes these are, as two bytes, where they are few enough for one frame.
+fn counted(bytes: &[u8]) -> Result<[u8; 2], Unwritten>
+    ensures { MatchResult result (λ size. (short bytes.now ≡ true) × (size ≡ high (length bytes.now) ∷ low (length bytes.now) ∷ [])) (λ error. (short bytes.now ≡ false) × (error ≡ Unwritten.TooLong)) }
 {
     if bytes.len() > MOST_BYTES {
         return Err(Unwritten::TooLong);
     }
+    Ok((bytes.len() as u16).to_be_bytes())
+}
+
+/// A frame's head, and the bytes behind it.
+fn put_both<S: Sink>(head: &[u8], bytes: &[u8], out: &mut S)
+    ensures { S.Sink.took out.old (head.now ++ bytes.now) out.new }
+{
     out.put(head);
-    out.put(&(bytes.len() as u16).to_be_bytes());
     out.put(bytes);
-    Ok(())
 }
