@@ -35,7 +35,7 @@ fn main(rt: HostRuntime) -> ExitCode {
 
 /// All memory but that for what goes out is taken here, once.
 fn run(rt: &HostRuntime) -> Result<End, Trouble> {
-    let mut marks = vec![in rt.alloc(); Mark::Open; CLIENTS]?;
+    let mut marks = vec![in rt.alloc(); Mark::Open as u8; CLIENTS]?;
     let mut pending = Pending::new(rt.alloc())?;
     let mut out = Growing::new(rt.alloc());
     let mut proxy = Proxy::new(&mut marks);

@@ -1,15 +1,14 @@
 -- Each client is answered once from one end to the next.
 use Rattle.std.proofs.lemmas.Bool.{or_parts}
-use Rattle.std.proofs.Common.{◌≡◌, ℕ, ◌<◌, Bool, true, false, cond, not, ◌&&◌, ◌||◌, eqb, ltb, ◌≢◌, List, [], ◌∷◌, ◌++◌, length, get_or, refl, ap, ◌∙◌, subst, ⊎_elim, length-set}
+use Rattle.std.proofs.Common.{◌≡◌, ℕ, ◌<◌, Bool, true, false, cond, not, ◌&&◌, ◌||◌, eqb, ltb, ◌≢◌, List, [], ◌∷◌, ◌++◌, length, get_or, refl, ap, ◌∙◌, subst, ⊎_elim, arith, length-set}
 use lib.ListN.{length-replicate}
 use Rattle.std.proofs.lemmas.List.{get_or-set_same, get_or-set_other, get_or-replicate}
 use Rattle.std.proofs.lemmas.Bool.{cases_eq, eq-eqb, ne_eqb}
+use Rattle.std.proofs.lemmas.Bool.Decides.{nat_tests}
 use Rattle.std.proofs.Math.Bool.{and-true}
 use Rattle.frames.specs.Events.{Arrival, FromClient, FromOrigin, Broke, Ticked, Gone}
 use Rattle.frames.specs.Frames.{Frame}
-use Rattle.proxy.specs.declared.marks.Mark.{Mark}
-use Rattle.proxy.specs.declared.marks.Mark.TheVariants.{Open, Closed}
-use Rattle.proxy.specs.Steps.{State, start, still, marked, refuse, refusal, may_answer, is_open, from_client, does}
+use Rattle.proxy.specs.Steps.{State, start, still, marked, refuse, refusal, is_open, from_client, does}
 use Rattle.proxy.specs.Runs.{play, sends, ends, sent, ended, spoken_on, is_for, about, AnsweredOnce, Unasked, AllRefusing, OnlyClients}
 
 about-append : (c : ℕ) (fs gs : List Frame) → about c (fs ++ gs) ≡ about c fs ++ about c gs
@@ -29,21 +28,21 @@ about_other c d e = rw e
 -- the client has a place, which says whether it has spoken since its last end
 pub record Known (c : ℕ) (b : Bool) (s : State) : Type 0 where
   pub place : c < length s.marks
-  pub mark : get_or s.marks c Closed ≡ cond b Closed Open
+  pub mark : get_or s.marks c 0 ≡ cond b 1 0
 
 open_unless : (c : ℕ) (b : Bool) (s : State) → Known c b s → is_open s.marks c ≡ not b
-open_unless c true s m = ap may_answer m.mark
-open_unless c false s m = ap may_answer m.mark
+open_unless c true s m = let h = m.place in let e : get_or s.marks c 0 ≡ 1 = m.mark in grind (arith, nat_tests)
+open_unless c false s m = let h = m.place in let e : get_or s.marks c 0 ≡ 0 = m.mark in grind (arith, nat_tests)
 
-marked_own : (c : ℕ) (n : Mark) (b t : Bool) (s : State) → Known c b s → n ≡ cond t Closed Open → Known c t (marked c n s)
+marked_own : (c n : ℕ) (b t : Bool) (s : State) → Known c b s → n ≡ cond t 1 0 → Known c t (marked c n s)
 marked_own c n b t s m e =
     let h = m.place in
-    record { place = rw (length-set s.marks c n) h; mark = get_or-set_same s.marks c n Closed h ∙ e }
+    record { place = rw (length-set s.marks c n) h; mark = get_or-set_same s.marks c n 0 h ∙ e }
 
-marked_other : (c d : ℕ) (n : Mark) (b : Bool) (s : State) → c ≢ d → Known c b s → Known c b (marked d n s)
+marked_other : (c d n : ℕ) (b : Bool) (s : State) → c ≢ d → Known c b s → Known c b (marked d n s)
 marked_other c d n b s ne m =
     let h = m.place in
-    record { place = rw (length-set s.marks d n) h; mark = get_or-set_other s.marks d c n Closed ne ∙ m.mark }
+    record { place = rw (length-set s.marks d n) h; mark = get_or-set_other s.marks d c n 0 ne ∙ m.mark }
 
 abbrev spoken_at : Bool → ℕ → Arrival → Bool
 spoken_at b c e = cond (ends c e) false (sends c e || b)
@@ -53,7 +52,7 @@ own_mark c b bs s m = rw (eq-eqb c c refl, open_unless c b s m) (go b (ltb 0 (le
   where
     go : (b l : Bool) → Known c b s → Known c (l || b) (cond (l && not b) (refuse c s) (still s)).after
     go true true m = m
-    go false true m = marked_own c Closed false true s m refl
+    go false true m = marked_own c 1 false true s m refl
     go true false m = m
     go false false m = m
 
@@ -61,7 +60,7 @@ other_mark : (c d : ℕ) (b : Bool) (bs : List ℕ) (s : State) → (c ≡ d →
 other_mark c d b bs s ne m = rw (ne_eqb c d ne) (go (ltb 0 (length bs) && is_open s.marks d))
   where
     go : (t : Bool) → Known c b (cond t (refuse d s) (still s)).after
-    go true = marked_other c d Closed b s ne m
+    go true = marked_other c d 1 b s ne m
     go false = m
 
 own_frames : (c : ℕ) (b : Bool) (bs : List ℕ) (s : State) → Known c b s → about c (from_client c bs s).frames ≡ cond (sends c (FromClient c bs) && not b) (refusal c) []
@@ -86,11 +85,11 @@ does_mark c b (Broke i) s m = m
 does_mark c b Ticked s m = record { place = m.place; mark = m.mark }
 does_mark c b (Gone d) s m = ⊎_elim own other (cases_eq c d)
   where
-    own : c ≡ d → Known c (spoken_at b c (Gone d)) (marked d Open s)
-    own e = subst (λ (z : ℕ). Known c (spoken_at b c (Gone z)) (marked z Open s)) e (rw (eq-eqb c c refl) (marked_own c Open b false s m refl))
+    own : c ≡ d → Known c (spoken_at b c (Gone d)) (marked d 0 s)
+    own e = subst (λ (z : ℕ). Known c (spoken_at b c (Gone z)) (marked z 0 s)) e (rw (eq-eqb c c refl) (marked_own c 0 b false s m refl))
 
-    other : (c ≡ d → ⊥) → Known c (spoken_at b c (Gone d)) (marked d Open s)
-    other ne = rw (ne_eqb c d ne) (marked_other c d Open b s ne m)
+    other : (c ≡ d → ⊥) → Known c (spoken_at b c (Gone d)) (marked d 0 s)
+    other ne = rw (ne_eqb c d ne) (marked_other c d 0 b s ne m)
 
 does_frames : (c : ℕ) (b : Bool) (e : Arrival) (s : State) → Known c b s → about c (does e s).frames ≡ cond (sends c e && not b) (refusal c) []
 does_frames c b (FromClient d bs) s m =
@@ -129,7 +128,7 @@ play_frames c b (e ∷ es) s m q =
     ∙ once c (sends c e) (sent c es) b
 
 at_start : (places c : ℕ) → c < places → Known c false (start places)
-at_start places c h = record { place = rw (length-replicate {A = Mark} places Open) h; mark = get_or-replicate places c Open Closed h }
+at_start places c h = record { place = rw (length-replicate {A = ℕ} places 0) h; mark = get_or-replicate places c 0 0 h }
 
 pub answered_once : AnsweredOnce
 answered_once places c h past es fresh stays =

@@ -1,8 +1,7 @@
 -- What the proxy does at an event.
 --
---   State        — what a proxy of the code stands for: the clock, and for each client's number a mark, whether the client is closed
+--   State        — what a proxy of the code stands for: the clock, and for each client's number a byte, 0 unless the client is closed
 --   start        — the first state, with so many places for clients
---   may_answer   — a client with this mark may be answered
 --   is_open      — there is a place for the client's mark, and it is not closed; a client with no place is never answered
 --   Turn         — the state after an event, and the frames that it brings
 --   refusal      — the frames by which a client is refused: 503, and its closing
@@ -18,31 +17,25 @@
 --                  and where more bytes are wanted, there is less than the largest frame
 --
 -- Assumes nothing.
-use Rattle.std.specs.Prelude.{ℕ, ◌+◌, ◌<◌, ◌≤◌, Bool, true, false, cond, ◌&&◌, List, [], ◌∷◌, length, replicate, Some, None, Ok, Err, Result, nat_le, nat_lt, slice_index_or, slice_set}
+use Rattle.std.specs.Prelude.{ℕ, ◌+◌, ◌<◌, ◌≤◌, Bool, false, cond, ◌&&◌, List, [], ◌∷◌, length, replicate, Some, None, Ok, Err, Result, ◌==◌, nat_le, nat_lt, slice_index, slice_set}
 use Rattle.frames.specs.Events.{Arrival, Reading, FromClient, FromOrigin, Broke, Ticked, Gone, event_of}
 use Rattle.frames.specs.Frames.{Frame, ToClient, CloseClient}
 use Rattle.frames.specs.Views.{largest}
-use Rattle.proxy.specs.declared.marks.Mark.{Mark}
-use Rattle.proxy.specs.declared.marks.Mark.TheVariants.{Open, Closed}
 use Rattle.proxy.specs.declared.steps.Halt.{Halt}
 use Rattle.proxy.specs.declared.steps.Halt.TheVariants as halt
 use Rattle.proxy.specs.Responses.{unavailable}
 
 pub record State : Type 0 where
   pub tick : ℕ
-  pub marks : List Mark
+  pub marks : List ℕ
 
 abbrev pub start : ℕ → State
-start n = record { tick = 0; marks = replicate n Open }
+start n = record { tick = 0; marks = replicate n 0 }
 
-abbrev pub may_answer : Mark → Bool
-may_answer Open = true
-may_answer Closed = false
+abbrev pub is_open : List ℕ → ℕ → Bool
+is_open marks c = nat_lt c (length marks) && slice_index marks c == 0
 
-abbrev pub is_open : List Mark → ℕ → Bool
-is_open marks c = may_answer (slice_index_or marks c Closed)
-
-abbrev pub marked : ℕ → Mark → State → State
+abbrev pub marked : ℕ → ℕ → State → State
 marked c m s = record { tick = s.tick; marks = slice_set s.marks c m }
 
 abbrev pub ticked : State → State
@@ -59,7 +52,7 @@ abbrev pub refusal : ℕ → List Frame
 refusal c = ToClient c unavailable ∷ CloseClient c ∷ []
 
 abbrev pub refuse : ℕ → State → Turn
-refuse c s = record { after = marked c Closed s; frames = refusal c }
+refuse c s = record { after = marked c 1 s; frames = refusal c }
 
 abbrev pub from_client : ℕ → List ℕ → State → Turn
 from_client c bs s = cond (nat_lt 0 (length bs) && is_open s.marks c) (refuse c s) (still s)
@@ -69,7 +62,7 @@ does (FromClient c bs) s = from_client c bs s
 does (FromOrigin i bs) s = still s
 does (Broke i) s = still s
 does Ticked s = still (ticked s)
-does (Gone c) s = still (marked c Open s)
+does (Gone c) s = still (marked c 0 s)
 
 abbrev pub last_tick : ℕ
 last_tick = 18446744073709551615

@@ -1,28 +1,28 @@
-// Which clients are closed: a mark for each client's number.
+// Which clients are closed: a byte for each client's number.
 ghost use Rattle.std.specs.Prelude.{◌≡◌, length, replicate, slice_set};
 ghost use Rattle.proxy.specs.Steps.{is_open};
 
 /// How many numbers of clients there are.
 pub const CLIENTS: usize = 65_536;
 
-/// What is known of a client.
+/// What is known of a client, and the byte that says it. Any other byte that was lent says the same as `Closed`.
 #[derive(Clone, Copy, Debug, PartialEq, Eq, Drop)]
 pub enum Mark {
     /// The client is not there, or was not closed.
-    Open,
+    Open = 0,
     /// The proxy closed the client, and its end has not come yet.
-    Closed,
+    Closed = 1,
 }
 
 /// Whether the client may be answered: there is a place for it, and it is not closed.
-pub fn is_open(marks: &[Mark], client: u16) -> bool
+pub fn is_open(marks: &[u8], client: u16) -> bool
     ensures { result ≡ is_open marks.now client }
 {
-    matches!(marks.get(usize::from(client)), Some(Mark::Open))
+    matches!(marks.get(usize::from(client)), Some(mark) if *mark == Mark::Open as u8)
 }
 
 /// Marks the client, if there is a place for it.
-pub fn set_mark(marks: &mut [Mark], client: u16, mark: Mark)
+pub fn set_mark(marks: &mut [u8], client: u16, mark: u8)
     ensures { marks.new ≡ slice_set marks.old client mark }
 {
     let place = usize::from(client);
@@ -33,8 +33,8 @@ pub fn set_mark(marks: &mut [Mark], client: u16, mark: Mark)
 }
 
 /// No client is closed.
-pub fn clear_marks(marks: &mut [Mark])
-    ensures { marks.new ≡ replicate (length marks.old) Mark.Open }
+pub fn clear_marks(marks: &mut [u8])
+    ensures { marks.new ≡ replicate (length marks.old) 0 }
 {
-    marks.fill(Mark::Open);
+    marks.fill(Mark::Open as u8);
 }

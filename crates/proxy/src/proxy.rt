@@ -20,8 +20,8 @@ pub const LAST_TICK: u64 = u64::MAX;
 
 // What is left and what is written are two clauses each time: the one is of the proxy, the other of the sink.
 impl<'a> Proxy<'a> {
-    /// A proxy at tick 0 that has closed no client, with places for as many clients as there are marks.
-    pub fn new(marks: &'a mut [Mark]) -> Proxy<'a>
+    /// A proxy at tick 0 that has closed no client, with places for as many clients as there are bytes.
+    pub fn new(marks: &'a mut [u8]) -> Proxy<'a>
         ensures { result ≡ start (length marks.old) }
     {
         clear_marks(marks);
@@ -50,7 +50,7 @@ impl<'a> Proxy<'a> {
         ensures state { self.new ≡ (refuse client self.old).after }
         ensures wrote { S.Sink.took out.old (out_bytes (refuse client self.old).frames) out.new }
     {
-        set_mark(self.marks, client, Mark::Closed);
+        set_mark(self.marks, client, Mark::Closed as u8);
         put_refusal(client, out);
     }
 
@@ -85,7 +85,7 @@ impl<'a> Proxy<'a> {
             Event::Client(client, bytes) => self.client_sent(client, bytes, out),
             Event::Origin(_, _) | Event::Broken(_) => {}
             Event::Tick => self.tick_on()?,
-            Event::Ended(client) => set_mark(self.marks, client, Mark::Open),
+            Event::Ended(client) => set_mark(self.marks, client, Mark::Open as u8),
         }
         Ok(())
     }

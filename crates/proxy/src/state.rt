@@ -1,5 +1,4 @@
 // What the proxy holds from one event to the next.
-use crate::marks::Mark;
 use std::marker::Model;
 
 /// A proxy that has no connection to its origin.
@@ -8,7 +7,7 @@ pub struct Proxy<'a> {
     /// How often the clock went on.
     pub tick: u64,
     /// For each number of a client whether that client is closed: lent memory, since a proxy takes none from the heap.
-    pub marks: &'a mut [Mark],
+    pub marks: &'a mut [u8],
 }
 
 impl<'a> Model for Proxy<'a> {
