@@ -58,11 +58,11 @@ abbrev pub same_version : Version → Version → Bool
 same_version v w = v.resource == w.resource && option_eq nat_eq v.text w.text
 
 abbrev pub is_fresh : Version → ℕ → Received → Bool
-is_fresh v now a = same_version a.version v && (not a.words.private && (not a.words.no_cache && (a.storable && nat_le (now - a.forwarded) a.words.lifetime)))
+is_fresh v now a = same_version a.version v && (not a.private && (not a.no_cache && (a.storable && nat_le (now - a.forwarded) a.lifetime)))
 
 abbrev pub lifetime_in : Option Received → ℕ
 lifetime_in None = 0
-lifetime_in (Some a) = a.words.lifetime
+lifetime_in (Some a) = a.lifetime
 
 abbrev pub lifetime_on : Version → ℕ → List Received → ℕ
 lifetime_on v now rs = lifetime_in (find (is_fresh v now) (reverse rs))
@@ -71,10 +71,10 @@ abbrev pub is_undone : ℕ → ℕ → Latest → Settled → Bool
 is_undone path before latest w = w.path == path && (nat_lt w.event before && not (lasts_past latest w.done))
 
 abbrev pub is_withdrawing : Received → Received → Bool
-is_withdrawing a b = b.words.private && (b.version.resource == a.version.resource && (nat_lt a.event b.event && (not b.full || (b.tagged && option_eq nat_eq b.version.text a.version.text))))
+is_withdrawing a b = b.private && (b.version.resource == a.version.resource && (nat_lt a.event b.event && (not b.full || (b.tagged && option_eq nat_eq b.version.text a.version.text))))
 
 abbrev pub is_shared : List Received → Version → Received → Bool
-is_shared rs v a = a.full && (not a.words.private && (a.storable && (same_version a.version v && not (list_any (is_withdrawing a) rs))))
+is_shared rs v a = a.full && (not a.private && (a.storable && (same_version a.version v && not (list_any (is_withdrawing a) rs))))
 
 abbrev pub is_never : Latest → Bool
 is_never Never = true

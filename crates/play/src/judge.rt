@@ -137,7 +137,7 @@ impl Latest {
 pub fn said_lifetime(answers: &[Received], version: Version, tick: u64) -> u64
     ensures { result ≡ lifetime_on version tick answers.now }
 {
-    last_fresh(answers, version, tick).map_or(0, |answer| answer.words.lifetime)
+    last_fresh(answers, version, tick).map_or(0, |answer| answer.lifetime)
 }
 
 /// The last answer that lets a version be shown at this tick.
@@ -157,17 +157,17 @@ impl Received {
         ensures { result ≡ is_fresh version tick self }
     {
         self.version == version
-            && !self.words.private
-            && !self.words.no_cache
+            && !self.private
+            && !self.no_cache
             && self.storable
-            && tick.saturating_sub(self.forwarded) <= self.words.lifetime
+            && tick.saturating_sub(self.forwarded) <= self.lifetime
     }
 
     /// Is it a private word about what an answer brought, received later than that?
     fn is_withdrawing(self, answer: Received) -> bool
         ensures { result ≡ is_withdrawing answer self }
     {
-        self.words.private
+        self.private
             && self.version.resource == answer.version.resource
             && answer.event < self.event
             && (!self.full || self.tagged && self.version.text == answer.version.text)
@@ -178,7 +178,7 @@ impl Received {
         ensures { result ≡ is_shared answers.now version self }
     {
         self.full
-            && !self.words.private
+            && !self.private
             && self.storable
             && self.version == version
             && !self.is_withdrawn(answers)

@@ -1,10 +1,13 @@
 // The names of a play, by number.
-ghost use Rattle.std.specs.Prelude.{◌≡◌, ◌≤◌, [], length};
-ghost use Rattle.play.specs.Tables.{name_of, word_number, number_of_name, InternedWord, Interned};
+ghost use Rattle.std.specs.Prelude.{◌≡◌, ◌≤◌, [], length, position, take};
+ghost use Rattle.play.specs.Tables.{is_named, name_of, word_number, number_of_name, InternedWord, Interned};
 
 use crate::types::{MOST_NAMES, NAME_BYTES, Names, ScriptError};
 use indexmap::IndexSet;
 use std::alloc::Global;
+
+/// How many names are compared with one that is looked for, before it is hashed.
+const FEW: usize = 64;
 
 impl Names {
     /// No names yet.
@@ -12,7 +15,6 @@ impl Names {
         ensures { result.items.keys ≡ [] }
     {
         Names {
-            heap,
             items: IndexSet::new(heap),
         }
     }
@@ -29,10 +31,14 @@ impl Names {
     }
 
     /// The number of a name, if it is there.
+    // The first ones are compared: to hash a long name takes longer than to find it among few.
     fn word_number(&self, name: &[u8]) -> Option<usize>
         ensures { result ≡ word_number self.now.items.keys name.now }
     {
-        self.items.get_index_of(name)
+        match among_first(self.items.as_slice(), name) {
+            Some(number) => Some(number),
+            None => self.items.get_index_of(name),
+        }
     }
 
     /// The same, and no number for the empty name, which is always there.
@@ -59,7 +65,8 @@ impl Names {
         if self.items.len() >= MOST_NAMES {
             return Err(ScriptError::ManyNames);
         }
-        let owned = name.to_vec(self.heap).map_err(|_| ScriptError::NoMemory)?;
+        let heap = *self.items.allocator();
+        let owned = name.to_vec(heap).map_err(|_| ScriptError::NoMemory)?;
         let (number, _) = self.items.insert_full(owned)?;
         Ok(number)
     }
@@ -73,4 +80,14 @@ impl Names {
         }
         Ok(Some(self.intern_word(name)?))
     }
+}
+
+/// The number of a name, if it is among the first few.
+fn among_first(items: &[Vec<u8>], name: &[u8]) -> Option<usize>
+    ensures { result ≡ position (is_named name.now) (take 64 items.now) }
+{
+    items
+        .iter()
+        .take(FEW)
+        .position(|item| item.as_slice() == name)
 }
