@@ -9,7 +9,7 @@ use play::script::parse;
 use play::types::{Command, Game, ScriptError, Shown};
 use play::words::number;
 use show::{End, Line};
-use std::io::{BufRead, BufReader};
+use std::io::{BufRead, BufReader, Write};
 use std::process::ExitCode;
 
 fn main(rt: HostRuntime) -> ExitCode {
@@ -25,6 +25,7 @@ fn main(rt: HostRuntime) -> ExitCode {
 /// Plays the script line by line, and then tells the counts and the verdict.
 fn run(rt: &HostRuntime) -> Result<(), Trouble> {
     let mut game = Game::new(rt.alloc());
+    let mut out = String::new(rt.alloc());
     for (i, text) in BufReader::new(rt.alloc(), rt.stdin())?
         .lines(rt.alloc())
         .enumerate()
@@ -36,15 +37,24 @@ fn run(rt: &HostRuntime) -> Result<(), Trouble> {
             error,
         })?;
         if let Some(shown) = shown {
-            rt.print(Line { game: &game, shown })?;
+            write!(out, "{}", Line { game: &game, shown })?;
+            write_out(rt, &mut out)?;
         }
     }
-    rt.print(End { game: &game })?;
+    write!(out, "{}", End { game: &game })?;
+    write_out(rt, &mut out)?;
     if game.broken.is_some() {
         Err(Trouble::Broken)
     } else {
         Ok(())
     }
+}
+
+/// Writes what was printed, in one piece however long it is, and keeps the memory for what is to come.
+fn write_out(rt: &HostRuntime, out: &mut String) -> Result<(), Trouble> {
+    rt.stdout().write_all(out.as_bytes())?;
+    out.clear();
+    Ok(())
 }
 
 /// What becomes of a line's command, if it is one and not many.

@@ -1,5 +1,6 @@
 // What is said of errors.
 use play::types::ScriptError;
+use std::alloc::AllocError;
 use std::{fmt, io};
 
 /// Why a script can't be played to its end, or that it ends badly.
@@ -9,8 +10,16 @@ pub(crate) enum Trouble {
     Script { line: usize, error: ScriptError },
     /// an answer was not as promised
     Broken,
+    /// no memory is left
+    Memory,
     /// the input can't be read, or the output not written
     Stream(io::Error),
+}
+
+impl From<AllocError> for Trouble {
+    fn from(_error: AllocError) -> Trouble {
+        Trouble::Memory
+    }
 }
 
 impl From<io::Error> for Trouble {
@@ -24,6 +33,7 @@ impl fmt::Display for Trouble {
         match self {
             Trouble::Script { line, error } => write!(f, "line {line}: {error}"),
             Trouble::Broken => write!(f, "an answer was not as promised"),
+            Trouble::Memory => write!(f, "no memory is left"),
             Trouble::Stream(error) => write!(f, "{error}"),
         }
     }

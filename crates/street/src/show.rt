@@ -32,11 +32,11 @@ impl Line<'_> {
         let Some(who) = self.shown.who else {
             return Ok(());
         };
-        let client = self.name(Some(who.client));
-        let verb = if who.write { "writes" } else { "reads" };
-        let path = self.name(Some(who.key.path));
-        let language = self.name(who.key.language);
-        write!(f, "{client:<10}{verb:<7}{path:<12}{language:<4}")
+        let client = self.padded(Some(who.client), 10);
+        let verb = if who.write { "writes " } else { "reads  " };
+        let path = self.padded(Some(who.key.path), 12);
+        let language = self.padded(who.key.language, 4);
+        write!(f, "{client}{verb}{path}{language}")
     }
 
     fn fmt_what<W: fmt::Write>(&self, f: &mut fmt::Formatter<W>) -> fmt::Result {
@@ -48,8 +48,8 @@ impl Line<'_> {
                 write!(f, "-> connection {c}, if not etag {etag}")
             }
             What::Given(source, body, judged) => {
-                let body = self.name(body);
-                write!(f, "{body:<14}")?;
+                let body = self.padded(body, 14);
+                write!(f, "{body}")?;
                 fmt_judged(f, source, judged)
             }
             What::Status(status) if self.is_write() => write!(f, "refused: {status}"),
@@ -66,9 +66,14 @@ impl Line<'_> {
     }
 
     fn name(&self, number: Option<usize>) -> Name<'_> {
+        self.padded(number, 0)
+    }
+
+    fn padded(&self, number: Option<usize>, width: usize) -> Name<'_> {
         Name {
             game: self.game,
             number,
+            width,
         }
     }
 }
@@ -100,18 +105,23 @@ fn fmt_judged<W: fmt::Write>(
     Ok(())
 }
 
-/// A name of the play, as text.
+/// A name of the play, as text, with blanks behind it up to a width.
 #[derive(Clone, Copy)]
 struct Name<'a> {
     game: &'a Game,
     number: Option<usize>,
+    width: usize,
 }
 
 impl fmt::Display for Name<'_> {
     fn fmt<W: fmt::Write>(&self, f: &mut fmt::Formatter<W>) -> fmt::Result {
         let name = self.game.names.name(self.number);
-        // A script's names are bytes that can be printed.
-        f.pad(str::from_utf8(name).unwrap_or("?"))
+        // A script's names are bytes that can be printed, each a character: `pad` would count them one by one.
+        f.write_str(str::from_utf8(name).unwrap_or("?"))?;
+        for _ in name.len()..self.width {
+            f.write_str(" ")?;
+        }
+        Ok(())
     }
 }
 
