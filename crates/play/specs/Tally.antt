@@ -1,6 +1,8 @@
 -- What a game counts, what it says is broken, and what the origin's words mean to a cache.
 --
 --   words_of      what the origin says, in the cache's terms: of the lifetime, at most a day, the age is over
+--   empty_name    the number of the empty name, as a client or a path: no place has it
+--   client_of     the client that the cache knows by a number: its last one is the empty name's
 --   counted       the counts with one more that happened; `more` stops at the largest number
 --   is_broken     what became of a command was not as promised
 --   first_broken  the first that was not as promised
@@ -9,7 +11,7 @@
 --   connection_of a connection, from 0 to 7
 --
 -- Assumes nothing.
-use Rattle.std.specs.Prelude.{◌≡◌, ℕ, ◌+◌, ◌-◌, ◌^◌, min, Bool, false, cond, ◌||◌, Some, None, Ok, Err, Option, Result, nat_lt}
+use Rattle.std.specs.Prelude.{◌≡◌, ℕ, ◌+◌, ◌-◌, ◌^◌, min, Bool, false, cond, ◌||◌, Some, None, Ok, Err, Option, Result, ◌==◌, nat_lt}
 use Rattle.std.specs.Result.{is_err}
 use Rattle.cache.specs.declared.types.Words.{Words}
 use Rattle.play.specs.declared.types.Counts.{Counts}
@@ -26,6 +28,12 @@ use Rattle.play.specs.Script.{Said}
 
 abbrev pub words_of : Said → Words
 words_of s = record { lifetime = min s.max_age 86400 - s.age; age = s.age; private = s.private || s.no_store; no_cache = s.no_cache }
+
+abbrev pub empty_name : ℕ
+empty_name = 2 ^ 64 - 1
+
+abbrev pub client_of : ℕ → ℕ
+client_of number = cond (number == 65535) empty_name number
 
 abbrev pub more : ℕ → ℕ
 more n = min (n + 1) (2 ^ 64 - 1)
